@@ -1,5 +1,13 @@
--- The number and the layer of every cause. Assumes nothing.
+-- The numbers of types, operators and causes, and the layer of every cause. Assumes nothing.
+use mathlib.Core.Bool.{cond}
 use Prim.Native.Nat.{ℕ}
+use lib.Dec.{eqb}
+use Rattle.std.specs.declared.option.Option.{Option}
+use Rattle.std.specs.declared.option.Option.the-variants.{Some, None}
+use Rattle.language.specs.declared.values.ValueType.{ValueType}
+use Rattle.language.specs.declared.values.ValueType.the-variants.{Void, Int, Bool}
+use Rattle.language.specs.declared.values.Operator.{Operator}
+use Rattle.language.specs.declared.values.Operator.the-variants.{Multiply, Divide, Add, Subtract, Less, LessOrEqual, Greater, GreaterOrEqual, Equal, And, Or}
 use Rattle.language.specs.declared.faults.Trouble.{Trouble}
 use Rattle.language.specs.declared.faults.Trouble.the-variants.{Unlawful, Unset, WrongMark, NoFrame}
 use Rattle.language.specs.declared.faults.Stop.{Stop}
@@ -85,3 +93,42 @@ layerOf (causes.Begin r) = layers.Begin
 layerOf (causes.Continue r) = layers.Continue
 layerOf (causes.Step h) = layers.Step
 layerOf (causes.Host r) = layers.Host
+
+-- the number that stands for a type in a table or an image
+abbrev pub typeNumber : ValueType → ℕ
+typeNumber Void = 0
+typeNumber Int = 1
+typeNumber Bool = 2
+
+-- the type that a number stands for
+abbrev pub typeAt : ℕ → Option ValueType
+typeAt n = cond (eqb n 0) (Some Void) (cond (eqb n 1) (Some Int) (cond (eqb n 2) (Some Bool) None))
+
+-- the number that stands for an operator in a table; its code in an image is four more
+abbrev pub operatorNumber : Operator → ℕ
+operatorNumber Multiply = 1
+operatorNumber Divide = 2
+operatorNumber Add = 3
+operatorNumber Subtract = 4
+operatorNumber Less = 5
+operatorNumber LessOrEqual = 6
+operatorNumber Greater = 7
+operatorNumber GreaterOrEqual = 8
+operatorNumber Equal = 9
+operatorNumber And = 10
+operatorNumber Or = 11
+
+-- the operator that a number stands for
+abbrev pub operatorAt : ℕ → Option Operator
+operatorAt n =
+    cond (eqb n 1) (Some Multiply)
+    (cond (eqb n 2) (Some Divide)
+    (cond (eqb n 3) (Some Add)
+    (cond (eqb n 4) (Some Subtract)
+    (cond (eqb n 5) (Some Less)
+    (cond (eqb n 6) (Some LessOrEqual)
+    (cond (eqb n 7) (Some Greater)
+    (cond (eqb n 8) (Some GreaterOrEqual)
+    (cond (eqb n 9) (Some Equal)
+    (cond (eqb n 10) (Some And)
+    (cond (eqb n 11) (Some Or) None))))))))))
