@@ -1,0 +1,3 @@
+// The marked machine: cells that know what they hold, frames, one step, and a run with an allowance.
+pub mod cells;
+pub mod frames;
