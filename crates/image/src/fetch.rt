@@ -1,7 +1,8 @@
 // From words to instructions. A word that is no lawful code or operand is trouble, and never read past.
 ghost use mathlib.Core.Path.{_≡_};
-ghost use Prim.Native.Nat.{_+_, _*_, _≤_};
+ghost use Prim.Native.Nat.{_+_, _*_, _≤_, _<_};
 ghost use lib.ListN.{length};
+ghost use Rattle.std.specs.Vec.{made};
 ghost use Rattle.image.specs.Fetch.{bare, either, literal, slot, target, call, operator, decoded, fetched};
 use crate::instruction::Entry;
 use crate::instruction::Header;
@@ -158,7 +159,8 @@ impl Header {
     // The instruction at a program counter.
     pub fn fetch(self, words: &[u32], counter: usize) -> Result<Instruction, Halt>
         requires { ⌜ 2 + 2 * self .count ≤ length (now words) ⌝ }
-        ensures { λ r. ⌜ r ≡ fetched (now (words .entry)) self counter ⌝ }
+        ensures value { λ r. ⌜ r ≡ fetched (now (words .entry)) self counter ⌝ }
+        ensures bound { λ r. ⌜ made r (λ _. counter < self .count) ⌝ }
     {
         let count = self.count as usize;
         if counter >= count {

@@ -1,3 +1,5 @@
 // The marked machine: cells that know what they hold, frames, one step, and a run with an allowance.
 pub mod cells;
 pub mod frames;
+pub mod local;
+pub mod registers;
