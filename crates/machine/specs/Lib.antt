@@ -1,3 +1,4 @@
 pub mod Cells
 pub mod Frames
 pub mod State
+pub mod Step

@@ -47,7 +47,7 @@ Does f m cells r m′ cells′ = Left (f (state m cells)) r (state m cells) m′
 
 -- what a step has made sure of when its instruction begins: the own frame lies below the top, and the top within the cells
 pub record Ready (m : Machine) (f : Frame) (cells : List Cell) : Type 0 where
-  pub early : m .counter < 2 ^ 32
+  pub early : m .counter + 1 < 2 ^ 32
   pub own : f .base ≡ m .base
   pub links : f .base + 4 ≤ f .end
   pub slots : f .end ≤ m .top

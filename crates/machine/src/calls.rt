@@ -4,7 +4,7 @@ ghost use Prim.Native.Nat.{_+_, _≤_};
 ghost use lib.ListN.{length};
 ghost use Rattle.std.specs.Vec.{made};
 ghost use Rattle.machine.specs.Cells.{times};
-ghost use Rattle.machine.specs.State.{Does, Ready, presentAt, valueAt, arguments, fourLinks, cleared, called, caller, jumped, returned, returnedValue, state};
+ghost use Rattle.machine.specs.State.{Does, Ready, presentAt, valueAt, arguments, fourLinks, cleared, called, caller, entered, jumped, returned, returnedValue, state};
 use crate::cells::Cell;
 use crate::frames::Frame;
 use crate::registers::Flow;
@@ -121,5 +121,40 @@ impl Machine {
         self.base = to.base;
         self.top = frame.base + 1;
         Ok(Flow::Next)
+    }
+
+    // Goes past an entry: makes the frame over opened links and arguments its own.
+    fn enter(&mut self, cells: &mut [Cell], frame: Frame, entry: Entry, base: usize) -> Result<Flow, Halt>
+        requires { ⌜ Ready (now self) frame (now cells) ⌝ ∗ ⌜ base + 4 ≤ now self .top ⌝ ∗ ⌜ entry .parameters + 4 ≤ now self .top ⌝ }
+        ensures state { λ r. ⌜ Does (entered entry base) (now (self .entry)) (now (cells .entry)) r (now (self .exit)) (now (cells .exit)) ⌝ }
+        ensures bound { λ _. ⌜ now (self .exit) .top ≤ length (now (cells .exit)) ⌝ }
+    {
+        let others = entry.others as usize;
+        if cells.len() - self.top < others {
+            return Err(Halt::Stopped(Stop::NoRoom));
+        }
+        cells[base + 2] = Cell::Link((self.counter + 1) as u32);
+        cells[base + 3] = Cell::Link(entry.parameters + entry.others);
+        clear_cells(cells, self.top, others);
+        self.counter = entry.target as usize + 1;
+        self.base = base;
+        self.top += others;
+        Ok(Flow::Next)
+    }
+
+    // Calls an entry.
+    pub(crate) fn call(&mut self, cells: &mut [Cell], frame: Frame, entry: Entry) -> Result<Flow, Halt>
+        requires { ⌜ Ready (now self) frame (now cells) ⌝ }
+        ensures state { λ r. ⌜ Does (called entry frame) (now (self .entry)) (now (cells .entry)) r (now (self .exit)) (now (cells .exit)) ⌝ }
+        ensures bound { λ _. ⌜ now (self .exit) .top ≤ length (now (cells .exit)) ⌝ }
+    {
+        let parameters = entry.parameters as usize;
+        if self.top - frame.end < parameters + 4 {
+            return Err(Halt::Troubled(Trouble::NoFrame));
+        }
+        let base = self.top - (parameters + 4);
+        four_links(cells, base)?;
+        arguments_at(cells, self.top - parameters, parameters)?;
+        self.enter(cells, frame, entry, base)
     }
 }

@@ -21,7 +21,7 @@ impl Frame {
     pub(crate) fn find(cells: &[Cell], base: usize, limit: usize) -> Result<Frame, Halt>
         requires { ⌜ limit ≤ length (now cells) ⌝ }
         ensures value { λ r. ⌜ r ≡ frame (now (cells .entry)) base limit ⌝ }
-        ensures bound { λ r. ⌜ made r (λ f. (f .base + 4 ≤ f .end) × (f .end ≤ limit)) ⌝ }
+        ensures bound { λ r. ⌜ made r (λ f. (f .base ≡ base) × (f .base + 4 ≤ f .end) × (f .end ≤ limit)) ⌝ }
     {
         if limit < 4 || base > limit - 4 {
             return Err(Halt::Troubled(Trouble::NoFrame));

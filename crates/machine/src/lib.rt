@@ -2,5 +2,6 @@
 pub mod calls;
 pub mod cells;
 pub mod frames;
+pub mod hosted;
 pub mod local;
 pub mod registers;
