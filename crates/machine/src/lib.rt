@@ -5,3 +5,4 @@ pub mod frames;
 pub mod hosted;
 pub mod local;
 pub mod registers;
+pub mod step;
