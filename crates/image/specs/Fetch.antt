@@ -51,7 +51,7 @@ target header x i = cond (ltb x (header .count)) (Ok i) unlawful
 
 -- 256 times the parameters, plus the other slots
 abbrev pub entry : ℕ → ℕ → Entry
-entry at x = record { target = at; parameters = x / 256; others = x % 256 }
+entry at x = record { start = at + 1; parameters = x / 256; others = x % 256 }
 
 -- a call's target is an entry, code 22, below the number of codes
 abbrev pub call : List ℕ → Header → ℕ → Result Instruction Halt

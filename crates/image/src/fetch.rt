@@ -117,7 +117,7 @@ impl Header {
         }
         let packed = words[2 + self.count as usize + at];
         Ok(Instruction::Local(Local::Call(Entry {
-            target: operand,
+            start: operand + 1,
             parameters: packed / 256,
             others: packed % 256,
         })))
@@ -157,15 +157,15 @@ impl Header {
     }
 
     // The instruction at a program counter.
-    pub fn fetch(self, words: &[u32], counter: usize) -> Result<Instruction, Halt>
+    pub fn fetch(self, words: &[u32], counter: u32) -> Result<Instruction, Halt>
         requires { ⌜ 2 + 2 * self .count ≤ length (now words) ⌝ }
         ensures value { λ r. ⌜ r ≡ fetched (now (words .entry)) self counter ⌝ }
         ensures bound { λ r. ⌜ made r (λ _. counter < self .count) ⌝ }
     {
-        let count = self.count as usize;
-        if counter >= count {
+        if counter >= self.count {
             return Err(Halt::Troubled(Trouble::Unlawful));
         }
-        self.decode(words, words[2 + counter], words[2 + count + counter])
+        let at = counter as usize;
+        self.decode(words, words[2 + at], words[2 + self.count as usize + at])
     }
 }

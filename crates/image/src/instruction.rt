@@ -16,10 +16,10 @@ pub struct Slot {
     pub index: u32,
 }
 
-// Where a call goes: the number of the entry's code, its parameters and its other slots.
+// Where a call goes: the number of the code past the entry, its parameters and its other slots.
 #[derive(Clone, Copy)]
 pub struct Entry {
-    pub target: u32,
+    pub start: u32,
     pub parameters: u32,
     pub others: u32,
 }

@@ -2,3 +2,4 @@ pub mod Cells
 pub mod Frames
 pub mod State
 pub mod Step
+pub mod Run

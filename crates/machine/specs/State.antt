@@ -162,7 +162,7 @@ laid e base s =
 abbrev pub entered : Entry → ℕ → State → Result State Halt
 entered e base s =
     cond (leb (s .top + e .others) (length (s .cells)))
-    (Ok (record { counter = e .target + 1; base = base; top = s .top + e .others; cells = laid e base s }))
+    (Ok (record { counter = e .start; base = base; top = s .top + e .others; cells = laid e base s }))
     noRoom
 
 -- call an entry: its opened links lie under its arguments, above the own slots

@@ -77,7 +77,7 @@ impl Machine {
         ensures state { λ r. ⌜ Does (jumped target) (now (self .entry)) (now (cells .entry)) r (now (self .exit)) (now (cells .exit)) ⌝ }
         ensures bound { λ _. ⌜ now (self .exit) .top ≤ length (now (cells .exit)) ⌝ }
     {
-        self.counter = target as usize;
+        self.counter = target;
         Ok(Flow::Next)
     }
 
@@ -98,7 +98,7 @@ impl Machine {
     {
         let to = self.caller(cells, frame)?;
         let next = cells[frame.base + 2].link()?;
-        self.counter = next as usize;
+        self.counter = next;
         self.base = to.base;
         self.top = frame.base;
         Ok(Flow::Next)
@@ -117,7 +117,7 @@ impl Machine {
         }
         let value = cells[self.top - 1].value()?;
         cells[frame.base] = Cell::of(value);
-        self.counter = next as usize;
+        self.counter = next;
         self.base = to.base;
         self.top = frame.base + 1;
         Ok(Flow::Next)
@@ -133,10 +133,10 @@ impl Machine {
         if cells.len() - self.top < others {
             return Err(Halt::Stopped(Stop::NoRoom));
         }
-        cells[base + 2] = Cell::Link((self.counter + 1) as u32);
+        cells[base + 2] = Cell::Link(self.counter + 1);
         cells[base + 3] = Cell::Link(entry.parameters + entry.others);
         clear_cells(cells, self.top, others);
-        self.counter = entry.target as usize + 1;
+        self.counter = entry.start;
         self.base = base;
         self.top += others;
         Ok(Flow::Next)

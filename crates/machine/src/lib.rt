@@ -5,4 +5,5 @@ pub mod frames;
 pub mod hosted;
 pub mod local;
 pub mod registers;
+pub mod run;
 pub mod step;

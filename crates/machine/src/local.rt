@@ -115,7 +115,7 @@ impl Machine {
             return Err(Halt::Troubled(Trouble::NoFrame));
         }
         let go_on = cells[self.top - 1].truth()?;
-        self.counter = if go_on { self.counter + 1 } else { target as usize };
+        self.counter = if go_on { self.counter + 1 } else { target };
         self.top -= 1;
         Ok(Flow::Next)
     }
