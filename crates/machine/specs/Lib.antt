@@ -1,3 +1,4 @@
+pub mod Begin
 pub mod Cells
 pub mod Frames
 pub mod State

@@ -61,7 +61,7 @@ fn arguments_at(cells: &[Cell], from: usize, count: usize) -> Result<usize, Halt
 }
 
 // Makes so many cells from a place on unset.
-fn clear_cells(cells: &mut [Cell], from: usize, count: usize)
+pub(crate) fn clear_cells(cells: &mut [Cell], from: usize, count: usize)
     requires { ⌜ from + count ≤ length (now cells) ⌝ }
     ensures { λ _. ⌜ now (cells .exit) ≡ cleared count (now (cells .entry)) from ⌝ }
 {

@@ -1,4 +1,5 @@
 // The marked machine: cells that know what they hold, frames, one step, and a run with an allowance.
+pub mod begin;
 pub mod calls;
 pub mod cells;
 pub mod frames;
