@@ -21,8 +21,8 @@ use Rattle.machine.specs.declared.frames.Frame.{Frame}
 use Rattle.machine.specs.declared.registers.Machine.{Machine}
 use Rattle.machine.specs.declared.registers.Flow.{Flow}
 use Rattle.machine.specs.declared.registers.Flow.the-variants.{Next}
-use Rattle.machine.specs.Cells.{bind, times, cellOf, link, present, value, truth, values, noFrame}
-use Rattle.machine.specs.Frames.{at, frame, outer, place}
+use Rattle.machine.specs.Cells.{bind, cellOf, link, value, truth, values, noFrame}
+use Rattle.machine.specs.Frames.{at, arguments, caller, fourLinks, outer, place}
 
 -- the machine with its cells
 pub record State : Type 0 where
@@ -74,7 +74,7 @@ pushed c s =
 
 -- push a copy of a slot
 abbrev pub loaded : Slot → Frame → State → Result State Halt
-loaded slot f s = bind (place (s .cells) f slot) (λ k. bind (value (at (s .cells) k)) (λ v. pushed (cellOf v) s))
+loaded slot f s = bind (place (at (s .cells)) f slot) (λ k. bind (value (at (s .cells) k)) (λ v. pushed (cellOf v) s))
 
 -- so many values are taken; their cells keep them
 abbrev pub dropped : ℕ → State → State
@@ -84,7 +84,7 @@ dropped n s = record { counter = s .counter + 1; base = s .base; top = s .top - 
 abbrev pub stored : Slot → Frame → State → Result State Halt
 stored slot f s =
     bind (holds f 1 s)
-    (λ _. bind (place (s .cells) f slot)
+    (λ _. bind (place (at (s .cells)) f slot)
     (λ k. bind (value (under s 1))
     (λ v. Ok (record { counter = s .counter + 1; base = s .base; top = s .top - 1; cells = set (s .cells) k (cellOf v) }))))
 
@@ -125,33 +125,15 @@ links access s =
 
 abbrev pub opened : ℕ → Frame → State → Result State Halt
 opened hops f s =
-    bind (outer hops (s .cells) f)
+    bind (outer hops (at (s .cells)) f)
     (λ g. cond (leb (s .top + 4) (length (s .cells)))
-      (Ok (record { counter = s .counter + 1; base = s .base; top = s .top + 4; cells = links (g .base) s }))
-      noRoom)
-
--- cells from a place on are set
-abbrev pub presentAt : List Cell → ℕ → Result ℕ Halt
-presentAt cells k = bind (present (at cells k)) (λ _. Ok (k + 1))
-
--- cells from a place on hold values
-abbrev pub valueAt : List Cell → ℕ → Result ℕ Halt
-valueAt cells k = bind (value (at cells k)) (λ _. Ok (k + 1))
-
--- arguments are taken where they are: all are set, before any mark is looked at
-abbrev pub arguments : List Cell → ℕ → ℕ → Result ℕ Halt
-arguments cells from n = bind (times n (presentAt cells) from) (λ _. times n (valueAt cells) from)
+    (Ok (record { counter = s .counter + 1; base = s .base; top = s .top + 4; cells = links (g .base) s }))
+    noRoom)
 
 -- so many unset cells from a place on
 abbrev pub cleared : ℕ → List Cell → ℕ → List Cell
 cleared zero cells from = cells
 cleared (suc n) cells from = set (cleared n cells from) (from + n) Unset
-
--- four links stand from a place on
-abbrev pub fourLinks : List Cell → ℕ → Result ℕ Halt
-fourLinks cells k =
-    bind (link (at cells k))
-    (λ _. bind (link (at cells (k + 1))) (λ _. bind (link (at cells (k + 2))) (λ _. link (at cells (k + 3)))))
 
 -- the cells of a new frame: return counter and slot count are filled in, and the slots past the parameters are unset
 abbrev pub laid : Entry → ℕ → State → List Cell
@@ -169,24 +151,20 @@ entered e base s =
 abbrev pub called : Entry → Frame → State → Result State Halt
 called e f s =
     bind (holds f (e .parameters + 4) s)
-    (λ _. bind (fourLinks (s .cells) (s .top - (e .parameters + 4)))
-    (λ _. bind (arguments (s .cells) (s .top - e .parameters) (e .parameters)) (λ _. entered e (s .top - (e .parameters + 4)) s)))
-
--- the caller's frame, wholly below the own one
-abbrev pub caller : Frame → State → Result Frame Halt
-caller f s = bind (link (at (s .cells) (f .base + 1))) (λ base. frame (s .cells) base (f .base))
+    (λ _. bind (fourLinks (at (s .cells)) (s .top - (e .parameters + 4)))
+    (λ _. bind (arguments (at (s .cells)) (s .top - e .parameters) (e .parameters)) (λ _. entered e (s .top - (e .parameters + 4)) s)))
 
 -- return nothing
 abbrev pub returned : Frame → State → Result State Halt
 returned f s =
-    bind (caller f s)
+    bind (caller (at (s .cells)) f)
     (λ g. bind (link (at (s .cells) (f .base + 2)))
     (λ next. Ok (record { counter = next; base = g .base; top = f .base; cells = s .cells })))
 
 -- return a value
 abbrev pub returnedValue : Frame → State → Result State Halt
 returnedValue f s =
-    bind (caller f s)
+    bind (caller (at (s .cells)) f)
     (λ g. bind (link (at (s .cells) (f .base + 2)))
     (λ next. bind (holds f 1 s)
     (λ _. bind (value (under s 1))

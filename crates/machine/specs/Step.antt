@@ -31,7 +31,7 @@ use Rattle.machine.specs.declared.registers.Machine.{Machine}
 use Rattle.machine.specs.declared.registers.Flow.{Flow}
 use Rattle.machine.specs.declared.registers.Flow.the-variants.{Next, Ended}
 use Rattle.machine.specs.Cells.{bind, value, number, numbers, wrongMark}
-use Rattle.machine.specs.Frames.{frame}
+use Rattle.machine.specs.Frames.{at, frame}
 use Rattle.machine.specs.State.{State, state, Left, holds, under, pushed, loaded, stored, dropped, replaced, operated, turned, discarded, jumped, branched, opened, called, returned, returnedValue}
 
 -- an instruction that touches the machine and its cells alone
@@ -117,7 +117,7 @@ carried instructions.EndValue t f m s = bind (endValue t f s) (λ v. Ok (ended (
 -- one step: a lawful instruction, in a frame below the top
 abbrev pub stepped : List ℕ → Header → Meaning → State → Result Went Halt
 stepped words header m s =
-    bind (fetched words header (s .counter)) (λ i. bind (frame (s .cells) (s .base) (s .top)) (λ f. carried i (header .result) f m s))
+    bind (fetched words header (s .counter)) (λ i. bind (frame (at (s .cells)) (s .base) (s .top)) (λ f. carried i (header .result) f m s))
 
 -- How a posting that came out so leaves machine, cells and host
 abbrev pub LeftPosted : Result (State × Meaning) Halt → Result Flow Halt → State → Meaning → Machine → List Cell → Meaning → Type 0

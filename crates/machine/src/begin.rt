@@ -27,6 +27,10 @@ impl Machine {
         cells[2] = Cell::Link(0);
         cells[3] = Cell::Link(others);
         clear_cells(cells, 4, slots);
-        Ok(Machine { counter: 1, base: 0, top: 4 + slots })
+        Ok(Machine {
+            counter: 1,
+            base: 0,
+            top: 4 + slots,
+        })
     }
 }

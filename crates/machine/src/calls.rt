@@ -4,7 +4,8 @@ ghost use Prim.Native.Nat.{_+_, _≤_};
 ghost use lib.ListN.{length};
 ghost use Rattle.std.specs.Vec.{made};
 ghost use Rattle.machine.specs.Cells.{times};
-ghost use Rattle.machine.specs.State.{Does, Ready, presentAt, valueAt, arguments, fourLinks, cleared, called, caller, entered, jumped, returned, returnedValue, state};
+ghost use Rattle.machine.specs.Frames.{at, arguments, caller, fourLinks, presentAt, valueAt};
+ghost use Rattle.machine.specs.State.{Does, Ready, cleared, called, entered, jumped, returned, returnedValue};
 use crate::cells::Cell;
 use crate::frames::Frame;
 use crate::registers::Flow;
@@ -17,7 +18,7 @@ use language::faults::Trouble;
 // Whether four links stand from a place on.
 fn four_links(cells: &[Cell], from: usize) -> Result<u32, Halt>
     requires { ⌜ from + 4 ≤ length (now cells) ⌝ }
-    ensures { λ r. ⌜ r ≡ fourLinks (now (cells .entry)) from ⌝ }
+    ensures { λ r. ⌜ r ≡ fourLinks (at (now (cells .entry))) from ⌝ }
 {
     cells[from].link()?;
     cells[from + 1].link()?;
@@ -28,7 +29,7 @@ fn four_links(cells: &[Cell], from: usize) -> Result<u32, Halt>
 // Whether so many cells from a place on are set.
 fn all_present(cells: &[Cell], from: usize, count: usize) -> Result<usize, Halt>
     requires { ⌜ from + count ≤ length (now cells) ⌝ }
-    ensures { λ r. ⌜ r ≡ times count (presentAt (now (cells .entry))) from ⌝ }
+    ensures { λ r. ⌜ r ≡ times count (presentAt (at (now (cells .entry)))) from ⌝ }
 {
     let mut place = from;
     for _ in 0..count {
@@ -41,7 +42,7 @@ fn all_present(cells: &[Cell], from: usize, count: usize) -> Result<usize, Halt>
 // Whether so many cells from a place on hold values.
 fn all_values(cells: &[Cell], from: usize, count: usize) -> Result<usize, Halt>
     requires { ⌜ from + count ≤ length (now cells) ⌝ }
-    ensures { λ r. ⌜ r ≡ times count (valueAt (now (cells .entry))) from ⌝ }
+    ensures { λ r. ⌜ r ≡ times count (valueAt (at (now (cells .entry)))) from ⌝ }
 {
     let mut place = from;
     for _ in 0..count {
@@ -54,7 +55,7 @@ fn all_values(cells: &[Cell], from: usize, count: usize) -> Result<usize, Halt>
 // Arguments are taken where they are: that one is unset comes before that one has a wrong mark.
 fn arguments_at(cells: &[Cell], from: usize, count: usize) -> Result<usize, Halt>
     requires { ⌜ from + count ≤ length (now cells) ⌝ }
-    ensures { λ r. ⌜ r ≡ arguments (now (cells .entry)) from count ⌝ }
+    ensures { λ r. ⌜ r ≡ arguments (at (now (cells .entry))) from count ⌝ }
 {
     all_present(cells, from, count)?;
     all_values(cells, from, count)
@@ -84,7 +85,7 @@ impl Machine {
     // The frame of the caller, wholly below the own one.
     fn caller(&self, cells: &[Cell], frame: Frame) -> Result<Frame, Halt>
         requires { ⌜ Ready (now self) frame (now cells) ⌝ }
-        ensures value { λ r. ⌜ r ≡ caller frame (state (now (self .entry)) (now (cells .entry))) ⌝ }
+        ensures value { λ r. ⌜ r ≡ caller (at (now (cells .entry))) frame ⌝ }
     {
         let base = cells[frame.base + 1].link()?;
         Frame::find(cells, base as usize, frame.base)
@@ -124,7 +125,13 @@ impl Machine {
     }
 
     // Goes past an entry: makes the frame over opened links and arguments its own.
-    fn enter(&mut self, cells: &mut [Cell], frame: Frame, entry: Entry, base: usize) -> Result<Flow, Halt>
+    fn enter(
+        &mut self,
+        cells: &mut [Cell],
+        frame: Frame,
+        entry: Entry,
+        base: usize,
+    ) -> Result<Flow, Halt>
         requires { ⌜ Ready (now self) frame (now cells) ⌝ ∗ ⌜ base + 4 ≤ now self .top ⌝ ∗ ⌜ entry .parameters + 4 ≤ now self .top ⌝ }
         ensures state { λ r. ⌜ Does (entered entry base) (now (self .entry)) (now (cells .entry)) r (now (self .exit)) (now (cells .exit)) ⌝ }
         ensures bound { λ _. ⌜ now (self .exit) .top ≤ length (now (cells .exit)) ⌝ }
@@ -143,7 +150,12 @@ impl Machine {
     }
 
     // Calls an entry.
-    pub(crate) fn call(&mut self, cells: &mut [Cell], frame: Frame, entry: Entry) -> Result<Flow, Halt>
+    pub(crate) fn call(
+        &mut self,
+        cells: &mut [Cell],
+        frame: Frame,
+        entry: Entry,
+    ) -> Result<Flow, Halt>
         requires { ⌜ Ready (now self) frame (now cells) ⌝ }
         ensures state { λ r. ⌜ Does (called entry frame) (now (self .entry)) (now (cells .entry)) r (now (self .exit)) (now (cells .exit)) ⌝ }
         ensures bound { λ _. ⌜ now (self .exit) .top ≤ length (now (cells .exit)) ⌝ }

@@ -3,7 +3,7 @@ ghost use mathlib.Core.Path.{_≡_};
 ghost use Prim.Native.Nat.{_+_, _≤_, _<_};
 ghost use lib.ListN.{length};
 ghost use Rattle.std.specs.Vec.{made};
-ghost use Rattle.machine.specs.Frames.{frame, hop, outer, slotIn, place};
+ghost use Rattle.machine.specs.Frames.{at, frame, hop, outer, slotIn, place};
 use crate::cells::Cell;
 use image::instruction::Slot;
 use language::faults::Halt;
@@ -20,7 +20,7 @@ impl Frame {
     // The frame at a base, below a limit.
     pub(crate) fn find(cells: &[Cell], base: usize, limit: usize) -> Result<Frame, Halt>
         requires { ⌜ limit ≤ length (now cells) ⌝ }
-        ensures value { λ r. ⌜ r ≡ frame (now (cells .entry)) base limit ⌝ }
+        ensures value { λ r. ⌜ r ≡ frame (at (now (cells .entry))) base limit ⌝ }
         ensures bound { λ r. ⌜ made r (λ f. (f .base ≡ base) × (f .base + 4 ≤ f .end) × (f .end ≤ limit)) ⌝ }
     {
         if limit < 4 || base > limit - 4 {
@@ -40,7 +40,7 @@ impl Frame {
     // The frame that the access link leads to, wholly below this one.
     fn hop(self, cells: &[Cell]) -> Result<Frame, Halt>
         requires { ⌜ self .base < length (now cells) ⌝ }
-        ensures value { λ r. ⌜ r ≡ hop (now (cells .entry)) self ⌝ }
+        ensures value { λ r. ⌜ r ≡ hop (at (now (cells .entry))) self ⌝ }
         ensures bound { λ r. ⌜ made r (λ f. (f .base + 4 ≤ f .end) × (f .end ≤ self .base)) ⌝ }
     {
         let access = cells[self.base].link()?;
@@ -50,7 +50,7 @@ impl Frame {
     // The frame that many hops off.
     pub(crate) fn outer(self, cells: &[Cell], hops: u32) -> Result<Frame, Halt>
         requires { ⌜ self .base + 4 ≤ self .end ⌝ ∗ ⌜ self .end ≤ length (now cells) ⌝ }
-        ensures value { λ r. ⌜ r ≡ outer hops (now (cells .entry)) self ⌝ }
+        ensures value { λ r. ⌜ r ≡ outer hops (at (now (cells .entry))) self ⌝ }
         ensures bound { λ r. ⌜ made r (λ f. (f .base + 4 ≤ f .end) × (f .end ≤ self .end)) ⌝ }
     {
         let mut frame = self;
@@ -76,7 +76,7 @@ impl Frame {
     // The place of the slot that an instruction names.
     pub(crate) fn place(self, cells: &[Cell], slot: Slot) -> Result<usize, Halt>
         requires { ⌜ self .base + 4 ≤ self .end ⌝ ∗ ⌜ self .end ≤ length (now cells) ⌝ }
-        ensures value { λ r. ⌜ r ≡ place (now (cells .entry)) self slot ⌝ }
+        ensures value { λ r. ⌜ r ≡ place (at (now (cells .entry))) self slot ⌝ }
         ensures bound { λ r. ⌜ made r (λ k. k < self .end) ⌝ }
     {
         let frame = self.outer(cells, slot.hops)?;

@@ -42,7 +42,12 @@ impl Machine {
     }
 
     // Takes a field number and pushes the amount.
-    pub(crate) fn amount<H: Host>(&mut self, cells: &mut [Cell], frame: Frame, host: &H) -> Result<Flow, Halt>
+    pub(crate) fn amount<H: Host>(
+        &mut self,
+        cells: &mut [Cell],
+        frame: Frame,
+        host: &H,
+    ) -> Result<Flow, Halt>
         requires { ⌜ Ready (now self) frame (now cells) ⌝ }
         ensures state { λ r. ⌜ Does (amountAsked (means (now (host .entry))) frame) (now (self .entry)) (now (cells .entry)) r (now (self .exit)) (now (cells .exit)) ⌝ }
         ensures bound { λ _. ⌜ now (self .exit) .top ≤ length (now (cells .exit)) ⌝ }
@@ -55,7 +60,12 @@ impl Machine {
     }
 
     // Takes a field number and pushes the flag.
-    pub(crate) fn flag<H: Host>(&mut self, cells: &mut [Cell], frame: Frame, host: &H) -> Result<Flow, Halt>
+    pub(crate) fn flag<H: Host>(
+        &mut self,
+        cells: &mut [Cell],
+        frame: Frame,
+        host: &H,
+    ) -> Result<Flow, Halt>
         requires { ⌜ Ready (now self) frame (now cells) ⌝ }
         ensures state { λ r. ⌜ Does (flagAsked (means (now (host .entry))) frame) (now (self .entry)) (now (cells .entry)) r (now (self .exit)) (now (cells .exit)) ⌝ }
         ensures bound { λ _. ⌜ now (self .exit) .top ≤ length (now (cells .exit)) ⌝ }
@@ -68,7 +78,12 @@ impl Machine {
     }
 
     // Takes a value, then an account, and posts.
-    pub(crate) fn post<H: Host>(&mut self, cells: &[Cell], frame: Frame, host: &mut H) -> Result<Flow, Halt>
+    pub(crate) fn post<H: Host>(
+        &mut self,
+        cells: &[Cell],
+        frame: Frame,
+        host: &mut H,
+    ) -> Result<Flow, Halt>
         requires { ⌜ Ready (now self) frame (now cells) ⌝ }
         ensures state { λ r. ⌜ LeftPosted (posted (means (now (host .entry))) frame (state (now (self .entry)) (now (cells .entry)))) r (state (now (self .entry)) (now (cells .entry))) (means (now (host .entry))) (now (self .exit)) (now (cells .exit)) (means (now (host .exit))) ⌝ }
         ensures bound { λ _. ⌜ now (self .exit) .top ≤ length (now (cells .exit)) ⌝ }
@@ -114,7 +129,12 @@ fn end_with(result: ValueType, value: Value) -> Result<Value, Halt>
 
 impl Machine {
     // The value that the run ends with.
-    pub(crate) fn end_value(&self, cells: &[Cell], frame: Frame, result: ValueType) -> Result<Value, Halt>
+    pub(crate) fn end_value(
+        &self,
+        cells: &[Cell],
+        frame: Frame,
+        result: ValueType,
+    ) -> Result<Value, Halt>
         requires { ⌜ Ready (now self) frame (now cells) ⌝ }
         ensures { λ r. ⌜ r ≡ endValue result frame (state (now (self .entry)) (now (cells .entry))) ⌝ }
     {

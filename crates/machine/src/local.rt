@@ -16,7 +16,12 @@ use language::values::Operator;
 
 impl Machine {
     // Pushes a cell, where there is room.
-    pub(crate) fn push(&mut self, cells: &mut [Cell], frame: Frame, cell: Cell) -> Result<Flow, Halt>
+    pub(crate) fn push(
+        &mut self,
+        cells: &mut [Cell],
+        frame: Frame,
+        cell: Cell,
+    ) -> Result<Flow, Halt>
         requires { ⌜ Ready (now self) frame (now cells) ⌝ }
         ensures state { λ r. ⌜ Does (pushed cell) (now (self .entry)) (now (cells .entry)) r (now (self .exit)) (now (cells .exit)) ⌝ }
         ensures bound { λ _. ⌜ now (self .exit) .top ≤ length (now (cells .exit)) ⌝ }
@@ -31,7 +36,12 @@ impl Machine {
     }
 
     // Pushes a copy of a slot.
-    pub(crate) fn load(&mut self, cells: &mut [Cell], frame: Frame, slot: Slot) -> Result<Flow, Halt>
+    pub(crate) fn load(
+        &mut self,
+        cells: &mut [Cell],
+        frame: Frame,
+        slot: Slot,
+    ) -> Result<Flow, Halt>
         requires { ⌜ Ready (now self) frame (now cells) ⌝ }
         ensures state { λ r. ⌜ Does (loaded slot frame) (now (self .entry)) (now (cells .entry)) r (now (self .exit)) (now (cells .exit)) ⌝ }
         ensures bound { λ _. ⌜ now (self .exit) .top ≤ length (now (cells .exit)) ⌝ }
@@ -42,7 +52,12 @@ impl Machine {
     }
 
     // Takes a value into a slot.
-    pub(crate) fn store(&mut self, cells: &mut [Cell], frame: Frame, slot: Slot) -> Result<Flow, Halt>
+    pub(crate) fn store(
+        &mut self,
+        cells: &mut [Cell],
+        frame: Frame,
+        slot: Slot,
+    ) -> Result<Flow, Halt>
         requires { ⌜ Ready (now self) frame (now cells) ⌝ }
         ensures state { λ r. ⌜ Does (stored slot frame) (now (self .entry)) (now (cells .entry)) r (now (self .exit)) (now (cells .exit)) ⌝ }
         ensures bound { λ _. ⌜ now (self .exit) .top ≤ length (now (cells .exit)) ⌝ }
@@ -59,7 +74,12 @@ impl Machine {
     }
 
     // Applies an operator to the two values on top, the right operand topmost.
-    pub(crate) fn operate(&mut self, cells: &mut [Cell], frame: Frame, operator: Operator) -> Result<Flow, Halt>
+    pub(crate) fn operate(
+        &mut self,
+        cells: &mut [Cell],
+        frame: Frame,
+        operator: Operator,
+    ) -> Result<Flow, Halt>
         requires { ⌜ Ready (now self) frame (now cells) ⌝ }
         ensures state { λ r. ⌜ Does (operated operator frame) (now (self .entry)) (now (cells .entry)) r (now (self .exit)) (now (cells .exit)) ⌝ }
         ensures bound { λ _. ⌜ now (self .exit) .top ≤ length (now (cells .exit)) ⌝ }

@@ -14,7 +14,14 @@ use image::instruction::Header;
 
 impl Machine {
     // Steps until the run ends or halts, or its allowance is used up.
-    pub fn run<H: Host>(&mut self, words: &[u32], header: Header, cells: &mut [Cell], host: &mut H, allowance: u32) -> Ran
+    pub fn run<H: Host>(
+        &mut self,
+        words: &[u32],
+        header: Header,
+        cells: &mut [Cell],
+        host: &mut H,
+        allowance: u32,
+    ) -> Ran
         requires { ⌜ 2 + 2 * header .count ≤ length (now words) ⌝ ∗ ⌜ now self .top ≤ length (now cells) ⌝ ∗ ⌜ length (now cells) ≤ 65536 ⌝ }
         ensures run { λ r. ⌜ IsRun (ran (now (words .entry)) header allowance (means (now (host .entry))) (state (now (self .entry)) (now (cells .entry)))) r (now (self .exit)) (now (cells .exit)) (means (now (host .exit))) ⌝ }
         ensures bound { λ _. ⌜ now (self .exit) .top ≤ length (now (cells .exit)) ⌝ }
@@ -22,13 +29,22 @@ impl Machine {
     {
         for steps in 0..allowance {
             match self.step(words, header, cells, host) {
-                Err(halt) => return Ran { steps, outcome: Outcome::Halted(halt, self.counter) },
+                Err(halt) => return Ran {
+                    steps,
+                    outcome: Outcome::Halted(halt, self.counter),
+                },
                 Ok(flow) => match flow {
                     Flow::Next => {}
-                    Flow::Ended(value) => return Ran { steps: steps + 1, outcome: Outcome::Finished(value) },
+                    Flow::Ended(value) => return Ran {
+                        steps: steps + 1,
+                        outcome: Outcome::Finished(value),
+                    },
                 },
             }
         }
-        Ran { steps: allowance, outcome: Outcome::Paused }
+        Ran {
+            steps: allowance,
+            outcome: Outcome::Paused,
+        }
     }
 }

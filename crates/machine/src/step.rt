@@ -18,7 +18,12 @@ use language::values::ValueType;
 
 impl Machine {
     // An instruction that touches the machine and its cells alone.
-    fn carry_local(&mut self, cells: &mut [Cell], frame: Frame, instruction: Local) -> Result<Flow, Halt>
+    fn carry_local(
+        &mut self,
+        cells: &mut [Cell],
+        frame: Frame,
+        instruction: Local,
+    ) -> Result<Flow, Halt>
         requires { ⌜ Ready (now self) frame (now cells) ⌝ }
         ensures state { λ r. ⌜ Does (local instruction frame) (now (self .entry)) (now (cells .entry)) r (now (self .exit)) (now (cells .exit)) ⌝ }
         ensures bound { λ _. ⌜ now (self .exit) .top ≤ length (now (cells .exit)) ⌝ }
@@ -41,7 +46,14 @@ impl Machine {
     }
 
     // Any instruction.
-    fn carry_out<H: Host>(&mut self, instruction: Instruction, result: ValueType, cells: &mut [Cell], frame: Frame, host: &mut H) -> Result<Flow, Halt>
+    fn carry_out<H: Host>(
+        &mut self,
+        instruction: Instruction,
+        result: ValueType,
+        cells: &mut [Cell],
+        frame: Frame,
+        host: &mut H,
+    ) -> Result<Flow, Halt>
         requires { ⌜ Ready (now self) frame (now cells) ⌝ }
         ensures state { λ r. ⌜ LeftStep (carried instruction result frame (means (now (host .entry))) (state (now (self .entry)) (now (cells .entry)))) r (state (now (self .entry)) (now (cells .entry))) (means (now (host .entry))) (now (self .exit)) (now (cells .exit)) (means (now (host .exit))) ⌝ }
         ensures bound { λ _. ⌜ now (self .exit) .top ≤ length (now (cells .exit)) ⌝ }
@@ -60,7 +72,13 @@ impl Machine {
     }
 
     // One step: a lawful instruction, in a frame below the top. One that halts changes nothing and is no step.
-    pub fn step<H: Host>(&mut self, words: &[u32], header: Header, cells: &mut [Cell], host: &mut H) -> Result<Flow, Halt>
+    pub fn step<H: Host>(
+        &mut self,
+        words: &[u32],
+        header: Header,
+        cells: &mut [Cell],
+        host: &mut H,
+    ) -> Result<Flow, Halt>
         requires { ⌜ 2 + 2 * header .count ≤ length (now words) ⌝ ∗ ⌜ now self .top ≤ length (now cells) ⌝ ∗ ⌜ length (now cells) ≤ 65536 ⌝ }
         ensures state { λ r. ⌜ LeftStep (stepped (now (words .entry)) header (means (now (host .entry))) (state (now (self .entry)) (now (cells .entry)))) r (state (now (self .entry)) (now (cells .entry))) (means (now (host .entry))) (now (self .exit)) (now (cells .exit)) (means (now (host .exit))) ⌝ }
         ensures bound { λ _. ⌜ now (self .exit) .top ≤ length (now (cells .exit)) ⌝ }
