@@ -1,23 +1,19 @@
 -- One step of the marked machine, and a run of so many. Assumes nothing.
 use mathlib.Core.Path.{_≡_}
-use mathlib.Core.Bool.{cond}
 use mathlib.Core.List.{List}
-use Prim.Native.Nat.{ℕ, zero, suc, _+_}
-use lib.Dec.{ltb}
-use lib.IntN.{ℤ, pos, negsuc}
+use Prim.Native.Nat.{ℕ}
+use lib.IntN.{ℤ}
 use Rattle.std.specs.declared.option.Option.{Option}
 use Rattle.std.specs.declared.option.Option.the-variants.{Some, None}
 use Rattle.std.specs.declared.result.Result.{Result}
 use Rattle.std.specs.declared.result.Result.the-variants.{Ok, Err}
 use Rattle.language.specs.declared.faults.Halt.{Halt}
-use Rattle.language.specs.declared.faults.Halt.the-variants.{Stopped}
-use Rattle.language.specs.declared.faults.Stop.{Stop}
-use Rattle.language.specs.declared.faults.Stop.the-variants.{NoSuchNumber}
 use Rattle.language.specs.declared.values.Value.{Value}
 use Rattle.language.specs.declared.values.Value.the-variants as vals
 use Rattle.language.specs.declared.values.ValueType.{ValueType}
 use Rattle.language.specs.declared.values.ValueType.the-variants.{Void, Int, Bool}
 use Rattle.host.specs.Meaning.{Meaning, asked, posting}
+use Rattle.host.specs.Serves.{fromHost, numbered}
 use Rattle.image.specs.declared.instruction.Header.{Header}
 use Rattle.image.specs.declared.instruction.Local.{Local}
 use Rattle.image.specs.declared.instruction.Local.the-variants.{PushNumber, PushTruth, Load, Store, Operate, Not, Discard, Jump, JumpIfFalse, Open, Call, Return, ReturnValue}
@@ -49,16 +45,6 @@ local (Open hops) f s = opened hops f s
 local (Call entry) f s = called entry f s
 local Return f s = returned f s
 local ReturnValue f s = returnedValue f s
-
--- fields and accounts have numbers from 0 to 255
-abbrev pub numbered : ℤ → Result ℕ Halt
-numbered (pos n) = cond (ltb n 256) (Ok n) (Err (Stopped NoSuchNumber))
-numbered (negsuc n) = Err (Stopped NoSuchNumber)
-
--- what the host turns down stops the run
-abbrev pub fromHost : {A : Type 0} → Result A Stop → Result A Halt
-fromHost (Ok a) = Ok a
-fromHost (Err stop) = Err (Stopped stop)
 
 -- the field number on top
 abbrev pub fieldOnTop : Frame → State → Result ℕ Halt

@@ -11,7 +11,7 @@ use language::faults::Trouble;
 
 // A frame: its base, and the place above its last slot.
 #[derive(Clone, Copy)]
-pub(crate) struct Frame {
+pub struct Frame {
     pub base: usize,
     pub end: usize,
 }

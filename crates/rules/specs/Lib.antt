@@ -1,0 +1,3 @@
+pub mod Resolved
+pub mod Translate
+pub mod Evaluate
