@@ -106,18 +106,20 @@ wentOn l a r = record {
 }
 
 -- the lengths, then the allowance
-abbrev pub allowed : Loaded → Area → ℕ → Resumed → Result Resumed Fault
-allowed l a allowance r =
-    cond (sameLengths l (length (a .words)) (length (a .cells))) (cond (leb allowance 1000000) (Ok r) (refused (Continue continues.Allowance))) (refused (Continue continues.OtherLengths))
+abbrev pub allowed : Loaded → ℕ → ℕ → ℕ → Result (Unit {0}) Fault
+allowed l buffer cells allowance =
+    cond (sameLengths l buffer cells) (cond (leb allowance 1000000) (Ok tt) (refused (Continue continues.Allowance))) (refused (Continue continues.OtherLengths))
 
 -- continue: a running record goes on, an ended one answers 0 steps and the same ending
 abbrev pub resumedFrom : Stage → ℕ → Meaning → Area → Result Resumed Fault
 resumedFrom Blank allowance m a = refused (Continue continues.NotBegun)
 resumedFrom (Ready l) allowance m a = refused (Continue continues.NotBegun)
 resumedFrom (Running l machine) allowance m a =
-    allowed l a allowance (wentOn l a (ran (a .words) (l .image .header) allowance m (state machine (a .cells))))
+    andThen (allowed l (length (a .words)) (length (a .cells)) allowance)
+    (λ _. Ok (wentOn l a (ran (a .words) (l .image .header) allowance m (state machine (a .cells)))))
 resumedFrom (Ended l o) allowance m a =
-    allowed l a allowance (record { answer = record { steps = 0; outcome = o }; area = a; meaning = m })
+    andThen (allowed l (length (a .words)) (length (a .cells)) allowance)
+    (λ _. Ok (record { answer = record { steps = 0; outcome = o }; area = a; meaning = m }))
 
 abbrev pub resuming : ℕ → Meaning → Area → Result Resumed Fault
 resuming allowance m a = resumedFrom (a .stage) allowance m a

@@ -6,7 +6,7 @@ ghost use lib.ListN.{length, drop};
 ghost use Prim.Native.Nat.{_≤_};
 ghost use Rattle.std.specs.Vec.{made};
 ghost use Rattle.engine.specs.Sound.{fits, soundly};
-ghost use Rattle.engine.specs.Calls.{LeftArea, LeftResumed, area, bringing, beginning, loaded, resuming, sameLengths, told};
+ghost use Rattle.engine.specs.Calls.{LeftArea, LeftResumed, allowed, area, bringing, beginning, loaded, resuming, standing, sameLengths, told};
 ghost use Rattle.engine.specs.declared.record.Stage.the-variants.{Blank};
 use crate::record::Loaded;
 use crate::record::Record;
@@ -89,6 +89,27 @@ impl Record {
             }
         }
     }
+
+    // Goes on with a run, or answers once more how it ended.
+    pub fn resume<H: Host>(&mut self, buffer: &[u32], cells: &mut [Cell], host: &mut H, allowance: u32) -> Result<Ran, Fault>
+        ensures { λ r. ⌜ LeftResumed (resuming allowance (means (now (host .entry))) (area (now (buffer .entry)) (now (cells .entry)) (now (self .entry) .stage))) r (area (now (buffer .entry)) (now (cells .entry)) (now (self .entry) .stage)) (means (now (host .entry))) (now (cells .exit)) (now (self .exit) .stage) (means (now (host .exit))) ⌝ }
+    {
+        match self.stage {
+            Stage::Blank => Err(refusal(Cause::Continue(ContinueRefusal::NotBegun))),
+            Stage::Ready(_) => Err(refusal(Cause::Continue(ContinueRefusal::NotBegun))),
+            Stage::Running(loaded, machine) => {
+                loaded.allow(buffer.len(), cells.len(), allowance)?;
+                let mut machine = machine;
+                let ran = machine.run(buffer, loaded.image.header, cells, host, allowance);
+                self.stage = loaded.standing(ran.outcome, machine);
+                Ok(ran)
+            }
+            Stage::Ended(loaded, outcome) => {
+                loaded.allow(buffer.len(), cells.len(), allowance)?;
+                Ok(Ran { steps: 0, outcome })
+            }
+        }
+    }
 }
 
 impl Loaded {
@@ -97,6 +118,30 @@ impl Loaded {
         ensures { λ r. ⌜ r ≡ sameLengths self buffer cells ⌝ }
     {
         self.buffer == buffer && self.cells == cells
+    }
+
+    // Whether a run may go on: the lengths, then the allowance.
+    fn allow(self, buffer: usize, cells: usize, allowance: u32) -> Result<(), Fault>
+        ensures { λ r. ⌜ r ≡ allowed self buffer cells allowance ⌝ }
+    {
+        if !self.same_lengths(buffer, cells) {
+            return Err(refusal(Cause::Continue(ContinueRefusal::OtherLengths)));
+        }
+        if allowance > MOST_STEPS {
+            return Err(refusal(Cause::Continue(ContinueRefusal::Allowance)));
+        }
+        Ok(())
+    }
+
+    // How the record stands after a run: one that has not paused has ended.
+    fn standing(self, outcome: Outcome, machine: Machine) -> Stage
+        ensures { λ r. ⌜ r ≡ standing self outcome machine ⌝ }
+    {
+        match outcome {
+            Outcome::Paused => Stage::Running(self, machine),
+            Outcome::Finished(value) => Stage::Ended(self, Outcome::Finished(value)),
+            Outcome::Halted(halt, place) => Stage::Ended(self, Outcome::Halted(halt, place)),
+        }
     }
 }
 
