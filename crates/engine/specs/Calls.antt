@@ -138,12 +138,12 @@ abbrev pub told : {A B : Type 0} → B → Result A Fault → Result B Fault
 told b (Ok a) = Ok b
 told b (Err e) = Err e
 
--- How a continue that came out so answers, and leaves cells, record and host
-abbrev pub LeftResumed : Result Resumed Fault → Result Ran Fault → Area → Meaning → List Cell → Stage → Meaning → Type 0
-LeftResumed (Ok r) answer old before cells stage meaning =
-    (answer ≡ Ok (r .answer)) × (cells ≡ r .area .cells) × (stage ≡ r .area .stage) × (meaning ≡ r .meaning)
-LeftResumed (Err e) answer old before cells stage meaning =
-    (answer ≡ Err e) × (cells ≡ old .cells) × (stage ≡ old .stage) × (meaning ≡ before)
+-- How a continue that came out so answers, and leaves buffer, cells, record and host
+abbrev pub LeftResumed : Result Resumed Fault → Result Ran Fault → Area → Meaning → List ℕ → List Cell → Stage → Meaning → Type 0
+LeftResumed (Ok r) answer old before words cells stage meaning =
+    (answer ≡ Ok (r .answer)) × (words ≡ r .area .words) × (cells ≡ r .area .cells) × (stage ≡ r .area .stage) × (meaning ≡ r .meaning)
+LeftResumed (Err e) answer old before words cells stage meaning =
+    (answer ≡ Err e) × (words ≡ old .words) × (cells ≡ old .cells) × (stage ≡ old .stage) × (meaning ≡ before)
 
 abbrev pub area : List ℕ → List Cell → Stage → Area
 area words cells stage = record { words = words; cells = cells; stage = stage }

@@ -92,7 +92,7 @@ impl Record {
 
     // Goes on with a run, or answers once more how it ended.
     pub fn resume<H: Host>(&mut self, buffer: &[u32], cells: &mut [Cell], host: &mut H, allowance: u32) -> Result<Ran, Fault>
-        ensures { λ r. ⌜ LeftResumed (resuming allowance (means (now (host .entry))) (area (now (buffer .entry)) (now (cells .entry)) (now (self .entry) .stage))) r (area (now (buffer .entry)) (now (cells .entry)) (now (self .entry) .stage)) (means (now (host .entry))) (now (cells .exit)) (now (self .exit) .stage) (means (now (host .exit))) ⌝ }
+        ensures { λ r. ⌜ LeftResumed (resuming allowance (means (now (host .entry))) (area (now (buffer .entry)) (now (cells .entry)) (now (self .entry) .stage))) r (area (now (buffer .entry)) (now (cells .entry)) (now (self .entry) .stage)) (means (now (host .entry))) (now (buffer .exit)) (now (cells .exit)) (now (self .exit) .stage) (means (now (host .exit))) ⌝ }
     {
         match self.stage {
             Stage::Blank => Err(refusal(Cause::Continue(ContinueRefusal::NotBegun))),
