@@ -1,2 +1,3 @@
 mod Replies
 mod Written
+mod Plays

@@ -47,7 +47,9 @@ impl Record {
     pub fn new() -> Record
         ensures { λ r. ⌜ r .stage ≡ Blank ⌝ }
     {
-        Record { stage: Stage::Blank }
+        Record {
+            stage: Stage::Blank,
+        }
     }
 
     // Makes the record blank.
@@ -58,7 +60,12 @@ impl Record {
     }
 
     // Takes a foreign image into the buffer; answers how many words it has.
-    pub fn bring(&mut self, buffer: &mut [u32], cells: &[Cell], words: &[u32]) -> Result<usize, Fault>
+    pub fn bring(
+        &mut self,
+        buffer: &mut [u32],
+        cells: &[Cell],
+        words: &[u32],
+    ) -> Result<usize, Fault>
         ensures answer { λ r. ⌜ r ≡ told (length (now (words .entry))) (bringing (now (words .entry)) (area (now (buffer .entry)) (now (cells .entry)) (now (self .entry) .stage))) ⌝ }
         ensures after { λ _. ⌜ LeftArea (bringing (now (words .entry)) (area (now (buffer .entry)) (now (cells .entry)) (now (self .entry) .stage))) (area (now (buffer .entry)) (now (cells .entry)) (now (self .entry) .stage)) (now (buffer .exit)) (now (cells .exit)) (now (self .exit) .stage) ⌝ }
     {
@@ -66,7 +73,11 @@ impl Record {
         if buffer.len() < words.len() {
             return Err(refusal(Cause::Buffer));
         }
-        let loaded = Loaded { image, buffer: buffer.len(), cells: cells.len() };
+        let loaded = Loaded {
+            image,
+            buffer: buffer.len(),
+            cells: cells.len(),
+        };
         write(buffer, words);
         self.stage = Stage::Ready(loaded);
         Ok(words.len())
@@ -91,7 +102,13 @@ impl Record {
     }
 
     // Goes on with a run, or answers once more how it ended.
-    pub fn resume<H: Host>(&mut self, buffer: &[u32], cells: &mut [Cell], host: &mut H, allowance: u32) -> Result<Ran, Fault>
+    pub fn resume<H: Host>(
+        &mut self,
+        buffer: &[u32],
+        cells: &mut [Cell],
+        host: &mut H,
+        allowance: u32,
+    ) -> Result<Ran, Fault>
         ensures { λ r. ⌜ LeftResumed (resuming allowance (means (now (host .entry))) (area (now (buffer .entry)) (now (cells .entry)) (now (self .entry) .stage))) r (area (now (buffer .entry)) (now (cells .entry)) (now (self .entry) .stage)) (means (now (host .entry))) (now (buffer .exit)) (now (cells .exit)) (now (self .exit) .stage) (means (now (host .exit))) ⌝ }
     {
         match self.stage {
