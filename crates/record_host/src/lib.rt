@@ -1,0 +1,3 @@
+// A host that answers from a declaration record, a row of 32-bit words.
+pub mod check;
+pub mod checked;
