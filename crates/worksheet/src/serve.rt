@@ -1,0 +1,1 @@
+// What the worksheet does as a host.
