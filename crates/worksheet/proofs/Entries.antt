@@ -11,7 +11,7 @@ use lib.Seq.{getD-set-same, getD-set-other, getD-take}
 use Rattle.std.specs.declared.option.Option.{Option}
 use Rattle.std.specs.declared.option.Option.the-variants.{Some, None}
 use Rattle.std.proofs.shelf.Lists.{take-more-set}
-use Rattle.std.proofs.shelf.Tests.{cases-bool, cases-eq, cond-true, cond-false, eq-eqb, ne-eqb}
+use Rattle.std.proofs.shelf.Tests.{cases-eq, cond-true, cond-false, eq-eqb, ne-eqb}
 use Rattle.worksheet.specs.declared.row.Entry.{Entry}
 use Rattle.worksheet.specs.declared.row.Row.{Row}
 use Rattle.worksheet.specs.Rows.{Apart, blank, entryIn, keyOf}
@@ -43,19 +43,16 @@ entry-none (row ∷ rows) (suc n) key fits none =
     cond-false (eqb (keyOf row) key) (Some (row .entry)) (entryIn key (take n rows)) (ne-eqb (keyOf row) key (none 0 (omega arith)))
     ∙ entry-none rows n key (omega arith) (λ k inside. none (suc k) (omega arith))
 
--- something is said where a row names the field and kind
-pub entry-some : (rows : List Row) (n key i : ℕ)
-    → i < n → n ≤ length rows → keyOf (getD rows i blank) ≡ key → (e : Entry) × (entryIn key (take n rows) ≡ Some e)
-entry-some rows zero key i inside fits is = absurd (omega arith)
-entry-some [] (suc n) key i inside fits is = absurd (omega arith)
-entry-some (row ∷ rows) (suc n) key zero inside fits is =
-    (row .entry, cond-true (eqb (keyOf row) key) (Some (row .entry)) (entryIn key (take n rows)) (eq-eqb (keyOf row) key is))
-entry-some (row ∷ rows) (suc n) key (suc i) inside fits is =
-    let rest = entry-some rows n key i (omega arith) (omega arith) is in
-    elim (cases-bool (eqb (keyOf row) key)) [
-      | inl yes′ ↦ (row .entry, cond-true (eqb (keyOf row) key) (Some (row .entry)) (entryIn key (take n rows)) yes′)
-      | inr no′ ↦ (rest .0, cond-false (eqb (keyOf row) key) (Some (row .entry)) (entryIn key (take n rows)) no′ ∙ rest .1)
-    ]
+-- a row says what its field and kind say, where no other names them
+pub entry-at : (rows : List Row) (n key i : ℕ)
+    → i < n → n ≤ length rows → keyOf (getD rows i blank) ≡ key → Apart rows n → entryIn key (take n rows) ≡ Some (getD rows i blank .entry)
+entry-at rows zero key i inside fits is apart = absurd (omega arith)
+entry-at [] (suc n) key i inside fits is apart = absurd (omega arith)
+entry-at (row ∷ rows) (suc n) key zero inside fits is apart =
+    cond-true (eqb (keyOf row) key) (Some (row .entry)) (entryIn key (take n rows)) (eq-eqb (keyOf row) key is)
+entry-at (row ∷ rows) (suc n) key (suc i) inside fits is apart =
+    cond-false (eqb (keyOf row) key) (Some (row .entry)) (entryIn key (take n rows)) (ne-eqb (keyOf row) key (λ e. apart 0 (suc i) (omega arith) inside (e ∙ sym is)))
+    ∙ entry-at rows n key i (omega arith) (omega arith) is (λ a b before below. apart (suc a) (suc b) (omega arith) (omega arith))
 
 -- the row in place of one of the same field and kind
 pub entry-replaced : (rows : List Row) (n i : ℕ) (row : Row) (key : ℕ)

@@ -103,3 +103,27 @@ RowSet had changed field before (Ok u) after =
     (field ≤ 255) × (meaning after ≡ changed) × (filledIn after ≡ grown had (filledIn before)) × (filledIn after ≤ 64) × (chargesOf after ≡ chargesOf before)
 RowSet had changed field before (Err fault) after =
     (fault ≡ refused refusal.the-variants.Row) × (after ≡ before) × ((255 < field) ⊎ ((had ≡ None) × (filledIn before ≡ 64)))
+
+-- A worksheet made with so many accounts and lines: it says nothing of any field, just the accounts from 0 on below that number are open, each at 0, all lines are left, and no row is filled and no line taken
+pub record Blank (accounts lines : ℕ) (sheet : Worksheet) : Type 0 where
+  pub amounts : (field : ℕ) → meaning sheet .amount field ≡ None
+  pub flags : (field : ℕ) → meaning sheet .flag field ≡ None
+  pub opened : (account : ℕ) → account < accounts → meaning sheet .account account ≡ Some (pos 0)
+  pub closed : (account : ℕ) → accounts ≤ account → meaning sheet .account account ≡ None
+  pub unposted : meaning sheet .lines ≡ lines
+  pub unfilled : filledIn sheet ≡ 0
+  pub uncharged : chargesOf sheet ≡ []
+
+-- at most 256 accounts and 128 charge lines
+abbrev pub Within : ℕ → ℕ → Type 0
+Within accounts lines = (accounts ≤ 256) × (lines ≤ 128)
+
+-- making a worksheet is refused just for numbers beyond the limits
+abbrev pub Made : ℕ → ℕ → Result Worksheet Fault → Type 0
+Made accounts lines (Ok sheet) = Within accounts lines × Blank accounts lines sheet
+Made accounts lines (Err fault) = (Within accounts lines → ⊥) × (fault ≡ refused refusal.the-variants.Limits)
+
+-- the charge lines after a posting: one more, at the end, unless it was refused
+abbrev pub listed : Result (Unit {0}) Stop → List Charge → ℕ → ℤ → List Charge
+listed (Ok u) lines account value = lines ++ (record { account = account; value = value } ∷ [])
+listed (Err stop) lines account value = lines

@@ -27,7 +27,7 @@ impl Row {
 
 impl Rows {
     // Where the row stands that names a field and kind.
-    fn place(&self, key: u16) -> Option<usize>
+    pub(crate) fn place(&self, key: u16) -> Option<usize>
         ensures { λ r. ⌜ Cases r ((i : ℕ) → i < now (self .entry) .filled → keyOf (getD (now (self .entry) .places) i blank) ≡ key → ⊥) (λ i. (i < now (self .entry) .filled) × (keyOf (getD (now (self .entry) .places) i blank) ≡ key)) ⌝ }
     {
         for i in 0..self.filled {

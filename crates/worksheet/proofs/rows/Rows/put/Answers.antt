@@ -6,7 +6,7 @@ use lib.ListN.{getD, take}
 use Rattle.worksheet.specs.declared.row.Row.{Row}
 use Rattle.worksheet.specs.Rows.{blank, entryIn, keyOf}
 use Rattle.worksheet.specs.Sheet.{grown}
-use Rattle.worksheet.proofs.Entries.{entry-none, entry-some, entry-replaced, entry-added}
+use Rattle.worksheet.proofs.Entries.{entry-at, entry-none, entry-replaced, entry-added}
 use Rattle.worksheet.proofs.rows.Rows.put.Needs as need
 
 -- the same rows say the same
@@ -30,9 +30,9 @@ returns-in-Some c =
     let row = c .args .row in
     let found = c .in-Some .ensures tt in
     let is : keyOf (getD (rows .places) (c .in-Some .i) blank) ≡ keyOf row = found .1 ∙ c .key .ensures in
-    let some = entry-some (rows .places) (rows .filled) (keyOf row) (c .in-Some .i) (found .0) (omega arith) is in
+    let some = entry-at (rows .places) (rows .filled) (keyOf row) (c .in-Some .i) (found .0) (omega arith) is (rows .apart) in
     let after = c .replaced .ensures in
-    ((λ key. alike key _ _ _ _ (after .filled) (after .places) ∙ entry-replaced (rows .places) (rows .filled) (c .in-Some .i) row key (found .0) (omega arith) is (rows .apart)), after .filled ∙ sym (ap (λ o. grown o (rows .filled)) (some .1)))
+    ((λ key. alike key _ _ _ _ (after .filled) (after .places) ∙ entry-replaced (rows .places) (rows .filled) (c .in-Some .i) row key (found .0) (omega arith) is (rows .apart)), after .filled ∙ sym (ap (λ o. grown o (rows .filled)) some))
 
 pub returns-else-self-eq64 : need.returns-else-self-eq64
 returns-else-self-eq64 c =
