@@ -81,6 +81,7 @@ impl RecordHost {
 pub impl Host for RecordHost as RecordHostHost {
     ghost means = { meaning };
 
+    // The amount that the record has for a field, if it has one.
     fn amount(&self, field: u8) -> Result<i32, Stop> {
         match amount_of(&self.checked.words[0..self.checked.size], field) {
             Some(amount) => Ok(amount),
@@ -88,6 +89,7 @@ pub impl Host for RecordHost as RecordHostHost {
         }
     }
 
+    // The flag that the record has for a field, if it has one.
     fn flag(&self, field: u8) -> Result<bool, Stop> {
         match flag_of(&self.checked.words[0..self.checked.size], field) {
             Some(flag) => Ok(flag),
@@ -95,6 +97,7 @@ pub impl Host for RecordHost as RecordHostHost {
         }
     }
 
+    // Posts by adding to the account's total.
     fn post(&mut self, account: u8, value: i32) -> Result<(), Stop> {
         if account as u32 >= self.checked.accounts || self.totals.left == 0 {
             return Err(Stop::PostingRefused);

@@ -12,13 +12,15 @@ use Rattle.worksheet.specs.declared.row.Entry.{Entry}
 use Rattle.worksheet.specs.declared.row.Entry.the-variants.{Amount, Flag}
 use Rattle.worksheet.specs.declared.row.Row.{Row}
 
--- field and kind as one number: even for amounts, odd for flags
+-- the amount of a field as one number
 abbrev pub amountKey : ℕ → ℕ
 amountKey field = 2 * field
 
+-- the flag of a field as one number, which is no amount's
 abbrev pub flagKey : ℕ → ℕ
 flagKey field = 2 * field + 1
 
+-- field and kind as one number
 abbrev pub keyed : ℕ → Entry → ℕ
 keyed field (Amount z) = amountKey field
 keyed field (Flag b) = flagKey field
@@ -40,12 +42,13 @@ abbrev pub entryIn : ℕ → List Row → Option Entry
 entryIn key [] = None
 entryIn key (row ∷ rows) = cond (eqb (keyOf row) key) (Some (row .entry)) (entryIn key rows)
 
--- an entry as an amount, as a flag
+-- an entry as an amount
 abbrev pub amountOf : Option Entry → Option ℤ
 amountOf None = None
 amountOf (Some (Amount z)) = Some z
 amountOf (Some (Flag b)) = None
 
+-- an entry as a flag
 abbrev pub flagOf : Option Entry → Option Bool
 flagOf None = None
 flagOf (Some (Amount z)) = None

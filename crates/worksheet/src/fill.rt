@@ -3,8 +3,8 @@ ghost use mathlib.Core.Path.{_≡_};
 ghost use Prim.Native.Nat.{ℕ, _+_, _<_, _≤_};
 ghost use lib.ListN.{getD, set};
 ghost use Rattle.std.specs.Options.{Cases};
-ghost use Rattle.worksheet.specs.Rows.{blank, keyOf};
-ghost use Rattle.worksheet.specs.Sheet.{Put, RowSet, meaning, withAmount, withFlag};
+ghost use Rattle.worksheet.specs.Rows.{amountKey, blank, entryIn, flagKey, keyOf};
+ghost use Rattle.worksheet.specs.Sheet.{Put, RowSet, filledRows, meaning, withAmount, withFlag};
 use crate::row::Entry;
 use crate::row::Row;
 use crate::rows::Rows;
@@ -13,21 +13,35 @@ use language::faults::Cause;
 use language::faults::Fault;
 use language::faults::HostRefusal;
 
+// The amount of a field as one number.
+pub(crate) fn amount_key(field: u8) -> u16
+    ensures { λ r. ⌜ r ≡ amountKey field ⌝ }
+{
+    2 * field as u16
+}
+
+// The flag of a field as one number, which is no amount's.
+pub(crate) fn flag_key(field: u8) -> u16
+    ensures { λ r. ⌜ r ≡ flagKey field ⌝ }
+{
+    2 * field as u16 + 1
+}
+
 impl Row {
     // Field and kind as one number.
     fn key(self) -> u16
         ensures { λ r. ⌜ r ≡ keyOf self ⌝ }
     {
         match self.entry {
-            Entry::Amount(_) => 2 * self.field as u16,
-            Entry::Flag(_) => 2 * self.field as u16 + 1,
+            Entry::Amount(_) => amount_key(self.field),
+            Entry::Flag(_) => flag_key(self.field),
         }
     }
 }
 
 impl Rows {
     // Where the row stands that names a field and kind.
-    pub(crate) fn place(&self, key: u16) -> Option<usize>
+    fn place(&self, key: u16) -> Option<usize>
         ensures { λ r. ⌜ Cases r ((i : ℕ) → i < now (self .entry) .filled → keyOf (getD (now (self .entry) .places) i blank) ≡ key → ⊥) (λ i. (i < now (self .entry) .filled) × (keyOf (getD (now (self .entry) .places) i blank) ≡ key)) ⌝ }
     {
         for i in 0..self.filled {
@@ -36,6 +50,16 @@ impl Rows {
             }
         }
         None
+    }
+
+    // What the rows say under a field and kind.
+    pub(crate) fn entry(&self, key: u16) -> Option<Entry>
+        ensures { λ r. ⌜ r ≡ entryIn key (filledRows (now (self .entry))) ⌝ }
+    {
+        match self.place(key) {
+            Some(i) => Some(self.places[i].entry),
+            None => None,
+        }
     }
 
     // A copy with the row at a place replaced by one of the same field and kind.

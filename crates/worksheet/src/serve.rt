@@ -3,12 +3,12 @@ ghost use mathlib.Core.Path.{_≡_};
 ghost use Prim.Native.Nat.{_+_, _<_, _≤_};
 ghost use lib.IntN.{natAbs};
 ghost use lib.ListN.{set};
-ghost use Rattle.std.specs.declared.option.Option.the-variants.{Some};
 ghost use Rattle.host.specs.Meaning.{answered, left, posting};
-ghost use Rattle.worksheet.specs.Rows.{entryIn};
-ghost use Rattle.worksheet.specs.Sheet.{Made, chargesOf, filledIn, filledRows, listed, meaning, share, takenLines, totalOf};
+ghost use Rattle.worksheet.specs.Sheet.{Made, chargesOf, filledIn, listed, meaning, share, takenLines, totalOf};
 use crate::charges::Charge;
 use crate::charges::Charges;
+use crate::fill::amount_key;
+use crate::fill::flag_key;
 use crate::row::Entry;
 use crate::row::Row;
 use crate::rows::Rows;
@@ -56,18 +56,6 @@ impl Charges {
         charges.lines[self.taken] = charge;
         charges.taken += 1;
         charges
-    }
-}
-
-impl Rows {
-    // What the rows say under a field and kind.
-    fn entry(&self, key: u16) -> Option<Entry>
-        ensures { λ r. ⌜ r ≡ entryIn key (filledRows (now (self .entry))) ⌝ }
-    {
-        match self.place(key) {
-            Some(i) => Some(self.places[i].entry),
-            None => None,
-        }
     }
 }
 
@@ -124,31 +112,33 @@ impl Worksheet {
     }
 
     // The charge lines left.
-    pub fn lines(&self) -> usize
+    pub fn lines(&self) -> u32
         ensures { λ r. ⌜ r ≡ meaning (now (self .entry)) .lines ⌝ }
     {
-        self.charges.most - self.charges.taken
+        (self.charges.most - self.charges.taken) as u32
     }
 }
 
 pub impl Host for Worksheet as WorksheetHost {
     ghost means = { meaning };
 
+    // The amount in the row of a field, if there is one.
     fn amount(&self, field: u8) -> Result<i32, Stop> {
-        match self.rows.entry(2 * field as u16) {
+        match self.rows.entry(amount_key(field)) {
             Some(Entry::Amount(amount)) => Ok(amount),
             Some(Entry::Flag(_)) | None => Err(Stop::NothingThere),
         }
     }
 
+    // The flag in the row of a field, if there is one.
     fn flag(&self, field: u8) -> Result<bool, Stop> {
-        match self.rows.entry(2 * field as u16 + 1) {
+        match self.rows.entry(flag_key(field)) {
             Some(Entry::Flag(flag)) => Ok(flag),
             Some(Entry::Amount(_)) | None => Err(Stop::NothingThere),
         }
     }
 
-    // It also says what becomes of the charge lines and the rows.
+    // Posts by writing a charge line; also said is what becomes of the lines and the rows.
     fn post(&mut self, account: u8, value: i32) -> Result<(), Stop>
         ensures answer { λ r. ⌜ r ≡ answered (posting (meaning (now (self .entry))) account value) ⌝ }
         ensures after { λ _. ⌜ meaning (now (self .exit)) ≡ left (posting (meaning (now (self .entry))) account value) (meaning (now (self .entry))) ⌝ }
