@@ -71,10 +71,10 @@ some-none o u p q = let z : _≡_ {A = ℕ} 0 1 = cc in omega arith
 
 module _ {V : Type 0} (words : List ℕ) (group : Group) (reads : ℕ → V) (rising : Rising words (group .from) (group .count)) (field : ℕ) where
   -- the value that stands at a field's number is the one looked up
-  pub looked : (j : ℕ) → Names words group field j → lookedUp words group reads field ≡ Some (reads (getD words (group .at + j) 0))
+  looked : (j : ℕ) → Names words group field j → lookedUp words group reads field ≡ Some (reads (getD words (group .at + j) 0))
   looked j names = ap (valued words (group .at) reads) (placed-some words (group .from) (group .count) field rising j (names .0) (names .1))
 
-  pub missed : ((j : ℕ) → Names words group field j → ⊥) → lookedUp words group reads field ≡ None
+  missed : ((j : ℕ) → Names words group field j → ⊥) → lookedUp words group reads field ≡ None
   missed none = ap (valued words (group .at) reads) (placed-none words (group .from) (group .count) field (λ j inside is. none j (inside, is)))
 
   pub said : Says words group reads field (lookedUp words group reads field)

@@ -1,15 +1,16 @@
 // Reading a lawful record.
 ghost use mathlib.Core.Path.{_≡_};
-ghost use Prim.Native.Nat.{ℕ, _+_, _<_, _≤_};
-ghost use lib.ListN.{length, getD};
+ghost use Prim.Native.Nat.{_+_, _<_, _≤_};
+ghost use lib.ListN.{length};
 ghost use Rattle.std.specs.Options.{Cases};
-ghost use Rattle.record_host.specs.Lawful.{Lawful};
-ghost use Rattle.record_host.specs.Means.{amountOf, flagOf};
+ghost use Rattle.record_host.specs.Lawful.{Lawful, Rising};
+ghost use Rattle.record_host.specs.Means.{amountOf, flagOf, placed};
 
-// Where among words a field's number stands.
+// Where among words that rise a field's number stands.
 fn find(words: &[u32], from: usize, count: usize, field: u8) -> Option<usize>
-    requires { ⌜ from + count ≤ length (now words) ⌝ }
-    ensures { λ r. ⌜ Cases r ((j : ℕ) → j < count → getD (now (words .entry)) (from + j) 0 ≡ field → ⊥) (λ j. (j < count) × (getD (now (words .entry)) (from + j) 0 ≡ field)) ⌝ }
+    requires { ⌜ from + count ≤ length (now words) ⌝ ∗ ⌜ Rising (now words) from count ⌝ }
+    ensures place { λ r. ⌜ r ≡ placed (now (words .entry)) from count field ⌝ }
+    ensures inside { λ r. ⌜ Cases r (Unit {0}) (λ j. j < count) ⌝ }
 {
     for j in 0..count {
         if words[from + j] == field as u32 {

@@ -27,7 +27,7 @@ ghost-totals c = (
   (
     search needs,
     (
-      bounded (c .args .self .sums) (c .args .account) (2147483648 * (c .args .self .most - c .args .self .left)) (2147483648 * (c .args .self .most - (c .args .self .left - 1))) _
+      bounded (c .args .self .sums) (c .args .account) (2147483648 * (c .args .self .most - c .args .self .left)) _ _
           (omega arith) (c .args .self .bound) (omega arith) (omega (arith, ints, c .args .self .bound (c .args .account))),
       tt,
     ),
