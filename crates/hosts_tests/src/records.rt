@@ -36,6 +36,7 @@ fn lengths() -> Result<(), Fail> {
     check_eq(refusal(&[1, 0], 1, 1), 61).note("no number")?;
     check_eq(refusal(&[1, 0, 5], 1, 1), 61).note("no value")?;
     check_eq(refusal(&[1, 1, 5, 5, 0], 1, 1), 61).note("one value short")?;
+    check_eq(refusal(&[256; 5000], 1, 1), 61).note("huge")?;
     check_eq(refusal(&[257, 0], 1, 1), 61).note("a count above 256")?;
     check_eq(refusal(&[0, 257], 1, 1), 61).note("the other above 256")?;
     check_eq(refusal(&[2_147_483_648, 2_147_483_648], 1, 1), 61).note("counts whose sum wraps")?;

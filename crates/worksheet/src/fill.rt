@@ -1,6 +1,7 @@
 // Filling the rows of a worksheet.
 ghost use mathlib.Core.Path.{_≡_};
 ghost use Prim.Native.Nat.{ℕ, _+_, _<_, _≤_};
+ghost use lib.Dec.{eqb};
 ghost use lib.ListN.{getD, set};
 ghost use Rattle.std.specs.Options.{Cases};
 ghost use Rattle.worksheet.specs.Rows.{amountKey, blank, entryIn, flagKey, keyOf};
@@ -85,6 +86,13 @@ impl Rows {
         rows
     }
 
+    // Whether no place is left for a new row.
+    fn is_full(&self) -> bool
+        ensures { λ r. ⌜ r ≡ eqb (now (self .entry) .filled) 64 ⌝ }
+    {
+        self.filled == 64
+    }
+
     // A copy in which this row is set: in the place of the one of the same field and kind, or as a new one if there is room.
     fn put(self, row: Row) -> Result<Rows, Fault>
         ensures { λ r. ⌜ Put self row r ⌝ }
@@ -92,7 +100,7 @@ impl Rows {
         match self.place(row.key()) {
             Some(i) => Ok(self.replaced(i, row)),
             None => {
-                if self.filled == 64 {
+                if self.is_full() {
                     return Err(Fault {
                         cause: Cause::Host(HostRefusal::Row),
                         place: 0,
