@@ -3,17 +3,17 @@ use mathlib.Core.Path.{_≡_, refl, ap, sym, _∙_, fun-ext}
 use mathlib.Core.Bool.{Bool, true, false, cond}
 use mathlib.Core.List.{List, [], _∷_}
 use mathlib.Core.Logic.{inl, inr}
-use Prim.Native.Nat.{ℕ, _+_, _*_}
+use Prim.Native.Nat.{ℕ}
 use native.Mathlib.Omega.{arith}
 use lib.Dec.{eqb}
 use lib.IntN.{ℤ}
 use Rattle.std.specs.declared.option.Option.{Option}
-use Rattle.std.specs.declared.option.Option.the-variants.{Some, None}
+use Rattle.std.specs.declared.option.Option.the-variants.{Some}
 use Rattle.std.proofs.shelf.Tests.{cases-eq, cond-true, cond-false, eq-eqb, ne-eqb}
 use Rattle.worksheet.specs.declared.row.Entry.{Entry}
 use Rattle.worksheet.specs.declared.row.Entry.the-variants.{Amount, Flag}
 use Rattle.worksheet.specs.declared.row.Row.{Row}
-use Rattle.worksheet.specs.Rows.{amountKey, flagKey, keyed, keyOf, entryIn, amountOf, flagOf}
+use Rattle.worksheet.specs.Rows.{amountKey, flagKey, keyed, entryIn, amountOf, flagOf}
 use Rattle.host.specs.Meaning.{Meaning}
 use Rattle.worksheet.specs.Sheet.{grown}
 

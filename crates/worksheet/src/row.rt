@@ -7,6 +7,7 @@ pub enum Entry {
     Flag(bool),
 }
 
+// One row: what is said of one field.
 #[derive(Clone, Copy)]
 pub struct Row {
     pub(crate) field: u8,

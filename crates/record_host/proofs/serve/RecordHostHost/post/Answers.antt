@@ -4,7 +4,7 @@ use native.Mathlib.Omega.{arith}
 use Prim.Native.Nat.{_-_}
 use lib.IntN.{pos, _+ℤ_}
 use lib.ListN.{getD, set}
-use Rattle.host.specs.Meaning.{answered, left, posting}
+use Rattle.host.specs.Meaning.{answered, left}
 use Rattle.record_host.specs.Checked.{recordOf}
 use Rattle.record_host.specs.Means.{amountOf, flagOf, meaning}
 use Rattle.record_host.proofs.Posting.{posted, same}

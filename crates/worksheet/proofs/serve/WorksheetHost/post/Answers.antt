@@ -3,10 +3,8 @@ use mathlib.Core.List.{List, [], _∷_, _++_}
 use Prim.Native.Nat.{ℕ, _-_, _+_, _<_}
 use native.Mathlib.Omega.{arith}
 use borrow.Author.Needs.{needs}
-use lib.IntN.{ℤ}
 use lib.ListN.{length, set, take}
 use Rattle.std.proofs.shelf.Lists.{take-more-set}
-use Rattle.std.proofs.shelf.Signed.{toZ-ofZ}
 use Rattle.host.specs.Meaning.{answered, left}
 use Rattle.worksheet.specs.declared.charges.Charge.{Charge}
 use Rattle.worksheet.specs.Sheet.{chargesOf, meaning, takenLines}
