@@ -1,0 +1,1 @@
+// Whether the form of a table is that of a tree.
