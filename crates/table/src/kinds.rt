@@ -145,16 +145,56 @@ impl Kind {
         ensures { λ r. ⌜ r ≡ limitsOf self ⌝ }
     {
         match self {
-            Kind::Program | Kind::Body => Limits { low: 0, high: 0, most: 0 },
-            Kind::Variable | Kind::Parameter => Limits { low: 1, high: 2, most: NAME },
-            Kind::Function => Limits { low: 0, high: 2, most: NAME },
-            Kind::Assignment | Kind::CallStatement => Limits { low: 0, high: 0, most: NAME },
-            Kind::Read | Kind::Call => Limits { low: 0, high: 0, most: NAME },
-            Kind::IfStatement | Kind::Block => Limits { low: 0, high: 0, most: 0 },
-            Kind::Integer => Limits { low: 0, high: 0, most: GREATEST },
-            Kind::Truth => Limits { low: 0, high: 0, most: 1 },
-            Kind::Not | Kind::IfExpression | Kind::ValueBlock => Limits { low: 0, high: 0, most: 0 },
-            Kind::Operator => Limits { low: 1, high: 11, most: 0 },
+            Kind::Program | Kind::Body => Limits {
+                low: 0,
+                high: 0,
+                most: 0,
+            },
+            Kind::Variable | Kind::Parameter => Limits {
+                low: 1,
+                high: 2,
+                most: NAME,
+            },
+            Kind::Function => Limits {
+                low: 0,
+                high: 2,
+                most: NAME,
+            },
+            Kind::Assignment | Kind::CallStatement => Limits {
+                low: 0,
+                high: 0,
+                most: NAME,
+            },
+            Kind::Read | Kind::Call => Limits {
+                low: 0,
+                high: 0,
+                most: NAME,
+            },
+            Kind::IfStatement | Kind::Block => Limits {
+                low: 0,
+                high: 0,
+                most: 0,
+            },
+            Kind::Integer => Limits {
+                low: 0,
+                high: 0,
+                most: GREATEST,
+            },
+            Kind::Truth => Limits {
+                low: 0,
+                high: 0,
+                most: 1,
+            },
+            Kind::Not | Kind::IfExpression | Kind::ValueBlock => Limits {
+                low: 0,
+                high: 0,
+                most: 0,
+            },
+            Kind::Operator => Limits {
+                low: 1,
+                high: 11,
+                most: 0,
+            },
         }
     }
 
@@ -206,14 +246,22 @@ impl Class {
     fn on(self, wanted: Class, then: Form, otherwise: Option<Form>) -> Option<Form>
         ensures { λ r. ⌜ r ≡ on self wanted then otherwise ⌝ }
     {
-        if self.number() == wanted.number() { Some(then) } else { otherwise }
+        if self.number() == wanted.number() {
+            Some(then)
+        } else {
+            otherwise
+        }
     }
 
     // A statement in a row of them, or the expression that ends the row.
     fn row(self, then: Form) -> Option<Form>
         ensures { λ r. ⌜ r ≡ on self Statement then (on self Expression Nothing None) ⌝ }
     {
-        self.on(Class::Statement, then, self.on(Class::Expression, Form::Nothing, None))
+        self.on(
+            Class::Statement,
+            then,
+            self.on(Class::Expression, Form::Nothing, None),
+        )
     }
 }
 
@@ -227,10 +275,22 @@ impl Form {
             Form::OneExpression => child.on(Class::Expression, Form::Nothing, None),
             Form::TwoExpressions => child.on(Class::Expression, Form::OneExpression, None),
             Form::Expressions => child.on(Class::Expression, Form::Expressions, None),
-            Form::Whole => child.on(Class::Expression, Form::Nothing, child.on(Class::Declaration, Form::Declarations, None)),
-            Form::Declarations => child.on(Class::Declaration, Form::Declarations, child.row(Form::Statements)),
+            Form::Whole => child.on(
+                Class::Expression,
+                Form::Nothing,
+                child.on(Class::Declaration, Form::Declarations, None),
+            ),
+            Form::Declarations => child.on(
+                Class::Declaration,
+                Form::Declarations,
+                child.row(Form::Statements),
+            ),
             Form::Statements => child.row(Form::Statements),
-            Form::Parameters => child.on(Class::Parameter, Form::Parameters, child.on(Class::Body, Form::Nothing, None)),
+            Form::Parameters => child.on(
+                Class::Parameter,
+                Form::Parameters,
+                child.on(Class::Body, Form::Nothing, None),
+            ),
             Form::Condition => child.on(Class::Expression, Form::FirstBlock, None),
             Form::FirstBlock => child.on(Class::Block, Form::SecondBlock, None),
             Form::SecondBlock => child.on(Class::Block, Form::Nothing, None),
