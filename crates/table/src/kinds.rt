@@ -1,6 +1,6 @@
 // The seventeen kinds of node, the classes in which they stand as children, and the forms that lists of children have.
 ghost use mathlib.Core.Path.{_≡_};
-ghost use Rattle.table.specs.Kinds.{kindAt, classOf, limitsOf, within};
+ghost use Rattle.table.specs.Kinds.{kindAt, classOf, limits, limitsOf, within};
 ghost use Rattle.std.specs.declared.option.Option.the-variants.{None};
 ghost use Rattle.table.specs.declared.kinds.Class.the-variants.{Statement, Expression};
 ghost use Rattle.table.specs.declared.kinds.Form.the-variants.{Nothing};
@@ -92,6 +92,12 @@ const NAME: u32 = 1_023;
 const GREATEST: u32 = 2_147_483_647;
 
 impl Limits {
+    fn new(low: u32, high: u32, most: u32) -> Limits
+        ensures { λ r. ⌜ r ≡ limits low high most ⌝ }
+    {
+        Limits { low, high, most }
+    }
+
     fn admit(self, sub: u32, value: u32) -> bool
         ensures { λ r. ⌜ r ≡ within self sub value ⌝ }
     {
@@ -145,56 +151,15 @@ impl Kind {
         ensures { λ r. ⌜ r ≡ limitsOf self ⌝ }
     {
         match self {
-            Kind::Program | Kind::Body => Limits {
-                low: 0,
-                high: 0,
-                most: 0,
-            },
-            Kind::Variable | Kind::Parameter => Limits {
-                low: 1,
-                high: 2,
-                most: NAME,
-            },
-            Kind::Function => Limits {
-                low: 0,
-                high: 2,
-                most: NAME,
-            },
-            Kind::Assignment | Kind::CallStatement => Limits {
-                low: 0,
-                high: 0,
-                most: NAME,
-            },
-            Kind::Read | Kind::Call => Limits {
-                low: 0,
-                high: 0,
-                most: NAME,
-            },
-            Kind::IfStatement | Kind::Block => Limits {
-                low: 0,
-                high: 0,
-                most: 0,
-            },
-            Kind::Integer => Limits {
-                low: 0,
-                high: 0,
-                most: GREATEST,
-            },
-            Kind::Truth => Limits {
-                low: 0,
-                high: 0,
-                most: 1,
-            },
-            Kind::Not | Kind::IfExpression | Kind::ValueBlock => Limits {
-                low: 0,
-                high: 0,
-                most: 0,
-            },
-            Kind::Operator => Limits {
-                low: 1,
-                high: 11,
-                most: 0,
-            },
+            Kind::Program | Kind::Body | Kind::IfStatement | Kind::Block => Limits::new(0, 0, 0),
+            Kind::Not | Kind::IfExpression | Kind::ValueBlock => Limits::new(0, 0, 0),
+            Kind::Variable | Kind::Parameter => Limits::new(1, 2, NAME),
+            Kind::Function => Limits::new(0, 2, NAME),
+            Kind::Assignment | Kind::CallStatement => Limits::new(0, 0, NAME),
+            Kind::Read | Kind::Call => Limits::new(0, 0, NAME),
+            Kind::Integer => Limits::new(0, 0, GREATEST),
+            Kind::Truth => Limits::new(0, 0, 1),
+            Kind::Operator => Limits::new(1, 11, 0),
         }
     }
 
