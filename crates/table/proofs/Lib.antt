@@ -1,3 +1,4 @@
 pub mod Chains
 pub mod Numbered
 pub mod Placed
+pub mod Formed
