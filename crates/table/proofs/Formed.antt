@@ -63,22 +63,23 @@ module _ (table : List Node) (all : AllListed table) where
     build zero i h m = absurd (omega arith)
     build (suc n) i h m =
         let l = all i h in
-        let bs = build-all n (formOf (l .kind)) (i + 1) (endAt table i) (l .inside) (omega arith) (l .children) in
-        (branch (l .kind) (nodeAt table i .sub) (nodeAt table i .value) (nodeAt table i .place) (bs .0),
-         (h, kind-number (nodeAt table i .kind) (l .kind) (l .known), refl, refl, refl, bs .1),
-         (l .limited, bs .2),
-         (bs .4, bs .3),
-         sym (ap classOr (l .known)))
+        let bs = build-all n (formOf (l .kind)) (i + 1) (endAt table i) (l .inside) (omega arith) (l .children) in (
+          branch (l .kind) (nodeAt table i .sub) (nodeAt table i .value) (nodeAt table i .place) (bs .0),
+          (h, kind-number (nodeAt table i .kind) (l .kind) (l .known), refl, refl, refl, bs .1),
+          (l .limited, bs .2),
+          (bs .4, bs .3),
+          sym (ap classOr (l .known)),
+        )
 
     build-all : (n : ℕ) (f : Form) (at stop : ℕ) → stop ≤ length table → 2 * length table + 1 < n + 2 * at → Children table stop f at → BuiltAll table f at stop
     build-all zero f at stop h m c = absurd (omega (arith, chain-rises c))
     build-all (suc n) f at stop h m c =
         elim (unchain c) [
-          inl e ↦ (nil, e .0, tt, tt, e .1)
-        | inr s ↦
-            (let b = build n at (omega (arith, s .here)) (omega arith) in
-             let bs = build-all n (s .rest) (endAt table at) stop h (omega (arith, s .rises)) (s .others) in
-             (cons (b .0) (bs .0), (b .1, bs .1), (b .2, bs .2), (b .3, bs .3), (s .rest, ap (after f) (b .4) ∙ s .comes, bs .4)))
+          | inl e ↦ (nil, e .0, tt, tt, e .1)
+          | inr s ↦
+              (let b = build n at (omega (arith, s .here)) (omega arith) in
+              let bs = build-all n (s .rest) (endAt table at) stop h (omega (arith, s .rises)) (s .others) in
+              (cons (b .0) (bs .0), (b .1, bs .1), (b .2, bs .2), (b .3, bs .3), (s .rest, ap (after f) (b .4) ∙ s .comes, bs .4)))
         ]
 
   pub built : 0 < length table → Built table 0
@@ -103,7 +104,7 @@ lays-listed (branch k s v p bs) table i l m f h st =
       stands = st;
       limited = ap (λ x. within (limitsOf k) x (nodeAt table i .value)) (l .2) ∙ ap (λ x. within (limitsOf k) s x) (l .3) ∙ m .0;
       inside = h;
-      children = lays-children bs table (formOf k) (i + 1) (endAt table i) (l .5) (f .0)
+      children = lays-children bs table (formOf k) (i + 1) (endAt table i) (l .5) (f .0);
     }
 
 -- a program may come nowhere
@@ -166,10 +167,10 @@ mutual
       let q = lays-rises-all bs table (endAt table at) stop (l .1) in
       let r = lays-rises b table at (l .0) in
       elim (cases-lt j (endAt table at)) [
-        inl y ↦
-          elim (cases-eq j at) [
-            inl s ↦ subst (Listed table) (sym s) (lays-listed b table at (l .0) (m .0) (g .0) (omega arith) (child-stands b f (e .0) table at (l .0) (e .1) o))
-          | inr n ↦ below-listed b table at (l .0) (m .0) (g .0) (omega arith) j (omega arith) y
-          ]
-      | inr y ↦ all-listed bs table (e .0) (endAt table at) stop (l .1) (m .1) (g .1) (e .2) (omega arith) h j y z
+        | inl y ↦
+            elim (cases-eq j at) [
+              | inl s ↦ subst (Listed table) (sym s) (lays-listed b table at (l .0) (m .0) (g .0) (omega arith) (child-stands b f (e .0) table at (l .0) (e .1) o))
+              | inr n ↦ below-listed b table at (l .0) (m .0) (g .0) (omega arith) j (omega arith) y
+            ]
+        | inr y ↦ all-listed bs table (e .0) (endAt table at) stop (l .1) (m .1) (g .1) (e .2) (omega arith) h j y z
       ]

@@ -2,3 +2,5 @@ pub mod Chains
 pub mod Numbered
 pub mod Placed
 pub mod Formed
+pub mod Typed
+pub mod Kept
