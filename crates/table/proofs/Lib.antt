@@ -4,3 +4,5 @@ pub mod Placed
 pub mod Formed
 pub mod Typed
 pub mod Kept
+pub mod Views
+pub mod Unique
