@@ -6,3 +6,4 @@ pub mod Typed
 pub mod Kept
 pub mod Views
 pub mod Unique
+pub mod Proved

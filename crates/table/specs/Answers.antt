@@ -9,7 +9,8 @@ use Rattle.std.specs.declared.result.Result.the-variants.{Ok, Err}
 use Rattle.language.specs.declared.faults.Cause.the-variants as causes
 use Rattle.language.specs.declared.faults.Fault.{Fault}
 use Rattle.table.specs.declared.nodes.Node.{Node}
-use Rattle.table.specs.Listed.{nodeAt, AllListed, Lowest}
+use Rattle.table.specs.Layout.{LaidOut}
+use Rattle.table.specs.Listed.{nodeAt, Lowest}
 
 -- a table has 1 to 4,096 nodes
 abbrev pub Sized : List Node → Type 0
@@ -24,7 +25,7 @@ pub data Refused (table : List Node) : Fault → Type 0 where
   length-is-none : (Sized table → ⊥) → Refused table (fault 0)
   node-is-bad : (i : ℕ) → Sized table → Lowest table i → Refused table (fault (nodeAt table i .place))
 
--- a table is accepted just when every node is as listed
+-- a table is accepted just when some tree lays it out
 abbrev pub Answer : List Node → Result (Unit {0}) Fault → Type 0
-Answer table (Ok _) = Sized table × AllListed table
+Answer table (Ok _) = Sized table × LaidOut table
 Answer table (Err f) = Refused table f

@@ -1,7 +1,8 @@
 pub mod Kinds
 pub mod Forms
-pub mod Listed
-pub mod Answers
 pub mod Tree
 pub mod Layout
+pub mod Listed
 pub mod Lays
+pub mod Answers
+pub mod Theorems

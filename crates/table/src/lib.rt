@@ -2,3 +2,4 @@
 pub mod checking;
 pub mod kinds;
 pub mod nodes;
+pub mod theorems;

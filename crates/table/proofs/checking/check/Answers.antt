@@ -4,6 +4,7 @@ use borrow.Author.Count.{below-more}
 use Rattle.std.proofs.shelf.Ways.{not-from-decides}
 use Rattle.table.specs.Listed.{Listed}
 use Rattle.table.specs.Answers.Refused.{length-is-none, node-is-bad}
+use Rattle.table.proofs.Proved.{listed-laid-out}
 use Rattle.table.proofs.checking.check.Needs as need
 
 pub returns-then-nodes-eq0 : need.returns-then-nodes-eq0
@@ -17,3 +18,6 @@ returns-then-not-listed c =
 
 pub loop-i-again : need.loop-i-again
 loop-i-again c = below-more _ _ (c .loop-i .inv) (c .listed .ensures .0 (c .if-not-listed .left))
+
+pub returns : need.returns
+returns c = (omega arith, listed-laid-out (c .args .nodes .now) (omega arith) (λ j h. c .loop-i .inv j (omega arith)))
