@@ -86,10 +86,10 @@ module _ (table : List Node) (all : AllListed table) where
   built h = build (2 * length table + 1) 0 h (omega arith)
 
 -- and the other way round
-class-of-lays : (b : Branch) (table : List Node) (i : ℕ) → Lays b table i → classAt table i ≡ classOfBranch b
+pub class-of-lays : (b : Branch) (table : List Node) (i : ℕ) → Lays b table i → classAt table i ≡ classOfBranch b
 class-of-lays (branch k s v p bs) table i l = ap (λ n. classOr (kindAt n)) (l .1) ∙ ap classOr (kind-back k)
 
-lays-children : (bs : Branches) (table : List Node) (f : Form) (at stop : ℕ) → LaysAll bs table at stop → Fit f bs → Children table stop f at
+pub lays-children : (bs : Branches) (table : List Node) (f : Form) (at stop : ℕ) → LaysAll bs table at stop → Fit f bs → Children table stop f at
 lays-children nil table f at stop l e = subst (λ k. Children table stop f k) (sym l) (ended e)
 lays-children (cons b bs) table f at stop l e =
     let r = lays-rises b table at (l .0) in

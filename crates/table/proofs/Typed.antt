@@ -201,7 +201,7 @@ parameters (cons b bs) fit is =
     ]
 
 -- sub and value keep to the limits
-kept : (l h m s v : ℕ) → within (limits l h m) s v ≡ true → (l ≤ s) × (s ≤ h) × (v ≤ m)
+pub kept : (l h m s v : ℕ) → within (limits l h m) s v ≡ true → (l ≤ s) × (s ≤ h) × (v ≤ m)
 kept l h m s v e =
     let p = and-parts (leb l s) (leb s h && leb v m) e in
     let q = and-parts (leb s h) (leb v m) (p .1) in

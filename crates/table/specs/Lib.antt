@@ -6,3 +6,4 @@ pub mod Listed
 pub mod Lays
 pub mod Answers
 pub mod Theorems
+pub mod Samples

@@ -164,14 +164,14 @@ impl Kind {
     }
 
     // Whether a record of this kind may have this sub and this value.
-    pub fn admits(self, sub: u32, value: u32) -> bool
+    pub(crate) fn admits(self, sub: u32, value: u32) -> bool
         ensures { λ r. ⌜ r ≡ within (limitsOf self) sub value ⌝ }
     {
         self.limits().admit(sub, value)
     }
 
     // The children that a node of this kind has.
-    pub fn children(self) -> Form
+    pub(crate) fn children(self) -> Form
         ensures { λ r. ⌜ r ≡ formOf self ⌝ }
     {
         match self {
@@ -232,7 +232,7 @@ impl Class {
 
 impl Form {
     // What is to come after one more child, if that child may come here.
-    pub fn after(self, child: Class) -> Option<Form>
+    pub(crate) fn after(self, child: Class) -> Option<Form>
         ensures { λ r. ⌜ r ≡ after self child ⌝ }
     {
         match self {
@@ -269,7 +269,7 @@ impl Form {
     }
 
     // Whether no more need come.
-    pub fn is_complete(self) -> bool
+    pub(crate) fn is_complete(self) -> bool
         ensures { λ r. ⌜ r ≡ complete self ⌝ }
     {
         match self {

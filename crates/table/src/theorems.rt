@@ -1,4 +1,5 @@
 // What is shown of tables and trees, each theorem named by a contract.
+ghost use Rattle.table.specs.Samples.{SamplesLaidOut};
 ghost use Rattle.table.specs.Theorems.{ListedJustWhenLaidOut, OneTree, RefusedAtLowest, OneAnswer};
 
 // Every node of a table is as listed just when some tree lays the table out.
@@ -25,6 +26,13 @@ pub fn refused_at_lowest() -> u8
 // No table has two answers.
 pub fn answered_once() -> u8
     ensures { λ _. ⌜ OneAnswer ⌝ }
+{
+    0
+}
+
+// The tables of the sample rule sets are laid out by their trees.
+pub fn samples_laid_out() -> u8
+    ensures { λ _. ⌜ SamplesLaidOut ⌝ }
 {
     0
 }
