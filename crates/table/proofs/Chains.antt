@@ -45,12 +45,6 @@ module _ (table : List Node) (stop : ℕ) (form : Form) (at : ℕ) where
   pub one-more : at < stop → Children table stop form at → Step table stop form at
   one-more h c = elim (unchain c) [ inl e ↦ absurd (omega (arith, e .0)) | inr s ↦ s ]
 
-  pub end-too-low : at < stop → endAt table at ≤ at → Children table stop form at → ⊥
-  end-too-low h low c = let s = one-more h c in omega arith
-
-  pub end-too-high : at < stop → stop < endAt table at → Children table stop form at → ⊥
-  end-too-high h high c = let s = one-more h c in omega arith
-
   pub class-refused : at < stop → after form (classAt table at) ≡ None → Children table stop form at → ⊥
   class-refused h e c = none-some e (one-more h c .comes)
 

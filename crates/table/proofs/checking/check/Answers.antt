@@ -1,6 +1,7 @@
 use mathlib.Core.Logic.{inl, inr}
 use native.Mathlib.Omega.{arith}
 use borrow.Author.Count.{below-more}
+use borrow.Author.Needs.{needs}
 use Rattle.std.proofs.shelf.Ways.{not-from-decides}
 use Rattle.table.specs.Listed.{Listed}
 use Rattle.table.specs.Answers.Refused.{length-is-none, node-is-bad}
@@ -17,7 +18,7 @@ returns-then-not-listed c =
     (record { there = c .loop-i-test .taken; bad = not-from-decides _ (c .listed .ensures) (c .if-not-listed .taken); below = c .loop-i .inv })
 
 pub loop-i-again : need.loop-i-again
-loop-i-again c = below-more _ _ (c .loop-i .inv) (c .listed .ensures .0 (c .if-not-listed .left))
+loop-i-again c = below-more _ _ (c .loop-i .inv) (search needs)
 
 pub returns : need.returns
 returns c = (omega arith, listed-laid-out (c .args .nodes .now) (omega arith) (λ j h. c .loop-i .inv j (omega arith)))
