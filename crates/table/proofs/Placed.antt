@@ -38,6 +38,15 @@ mutual
   lays-rises-all (cons b bs) table at stop l =
       omega (arith, lays-rises b table at (l .0), lays-rises-all bs table (endAt table at) stop (l .1))
 
+-- and not past the end of the table
+mutual
+  pub lays-inside : (b : Branch) (table : List Node) (i : ℕ) → Lays b table i → endAt table i ≤ length table
+  lays-inside (branch k s v p bs) table i l = lays-inside-all bs table (i + 1) (endAt table i) (l .5) (omega arith)
+
+  pub lays-inside-all : (bs : Branches) (table : List Node) (at stop : ℕ) → LaysAll bs table at stop → at ≤ length table → stop ≤ length table
+  lays-inside-all nil table at stop l h = omega arith
+  lays-inside-all (cons b bs) table at stop l h = lays-inside-all bs table (endAt table at) stop (l .1) (lays-inside b table at (l .0))
+
 -- a record is its five numbers
 same-node : (n m : Node) → n .kind ≡ m .kind → n .sub ≡ m .sub → n .value ≡ m .value → n .end ≡ m .end → n .place ≡ m .place → n ≡ m
 same-node n m a b c d e i = record { kind = a i; sub = b i; value = c i; end = d i; place = e i }

@@ -2,7 +2,7 @@
 use mathlib.Core.Path.{_≡_, refl, sym, ap, subst, _∙_}
 use mathlib.Core.Bool.{true}
 use mathlib.Core.List.{List, [], _∷_}
-use Prim.Native.Nat.{ℕ, _<_, _≤_}
+use Prim.Native.Nat.{ℕ, _+_, _<_, _≤_}
 use native.Mathlib.Omega.{arith}
 use lib.ListN.{length}
 use Rattle.std.specs.declared.option.Option.the-variants.{Some}
@@ -11,12 +11,13 @@ use Rattle.table.specs.declared.kinds.Class.{Class}
 use Rattle.table.specs.declared.kinds.Class.the-variants as classes
 use Rattle.table.specs.declared.nodes.Node.{Node}
 use Rattle.table.specs.Kinds.{kindAt, limitsOf, within}
-use Rattle.table.specs.Tree.{Expression, Arguments, Statement, Statements, Block, Final, Parameter, Declaration, Declarations, Body}
+use Rattle.table.specs.Tree.{Expression, Arguments, Statement, Statements, Block, Final, Parameter, Declaration, Declarations, Body, Program}
 use Rattle.table.specs.Tree.Arguments.{noArguments, argument}
 use Rattle.table.specs.Tree.Statements.{noStatements, statement}
 use Rattle.table.specs.Tree.Final.{noFinal, final}
 use Rattle.table.specs.Tree.Declarations.{noDeclarations, declaration}
-use Rattle.table.specs.Layout.{Branch, Branches, ofExpression, ofArguments, ofStatement, ofStatements, ofFinal, ofParameter, ofParameters, ofDeclaration, ofDeclarations, ofBody}
+use Rattle.table.specs.Tree.Program.{single, whole}
+use Rattle.table.specs.Layout.{Branch, Branches, ofProgram, ofExpression, ofArguments, ofStatement, ofStatements, ofFinal, ofParameter, ofParameters, ofDeclaration, ofDeclarations, ofBody}
 use Rattle.table.specs.Layout.Branches.{nil, cons}
 use Rattle.table.specs.Listed.{nodeAt, endAt, Listed}
 use Rattle.table.specs.Lays.{Lays, LaysAll}
@@ -24,8 +25,8 @@ use Rattle.table.proofs.Chains.{classAt}
 use Rattle.table.proofs.Numbered.{some-same}
 use Rattle.table.proofs.Placed.{lays-rises, lays-rises-all}
 use Rattle.table.proofs.Formed.{classOfBranch, class-of-lays}
-use Rattle.table.proofs.Kept.{statement-class, parameter-class, declaration-class, body-class}
-use Rattle.table.proofs.Unique.{Lacks, body-lacks}
+use Rattle.table.proofs.Kept.{expression-class, statement-class, parameter-class, declaration-class, body-class}
+use Rattle.table.proofs.Unique.{Lacks, body-lacks, expression-not-declaration}
 
 -- a first branch stands short of the stop
 front : (b : Branch) (bs : Branches) (table : List Node) (at stop : ℕ) → LaysAll (cons b bs) table at stop → at < stop
@@ -92,6 +93,17 @@ module _ (table : List Node) (at stop : ℕ) where
   pub a-final : (f : Final) → LaysAll (ofFinal f) table at stop → at < stop → (e : Expression) × (f ≡ final e)
   a-final noFinal l h = absurd (omega arith)
   a-final (final e) l h = (e, refl)
+
+-- a program, by the class of its first child
+pub a-single : (t : Program) (table : List Node) (i : ℕ) → Lays (ofProgram t) table i → classAt table (i + 1) ≡ classes.Expression → (p : ℕ) × (e : Expression) × (t ≡ single p e)
+a-single (single p e) table i l h = (p, e, refl)
+a-single (whole p d ds ss f) table i l h =
+    absurd (expression-not-declaration (sym h ∙ class-of-lays (ofDeclaration d) table (i + 1) (l .5 .0) ∙ declaration-class d))
+
+pub a-whole : (t : Program) (table : List Node) (i : ℕ) → Lays (ofProgram t) table i → classAt table (i + 1) ≡ classes.Declaration → (p : ℕ) × (d : Declaration) × (ds : Declarations) × (ss : Statements) × (f : Final) × (t ≡ whole p d ds ss f)
+a-whole (single p e) table i l h =
+    absurd (expression-not-declaration (sym (expression-class e) ∙ sym (class-of-lays (ofExpression e) table (i + 1) (l .5 .0)) ∙ h))
+a-whole (whole p d ds ss f) table i l h = (p, d, ds, ss, f, refl)
 
 -- sub and value of a node as listed keep to the limits of the kind that the code has decided
 pub limited-at : (table : List Node) (i : ℕ) (k : Kind) → Listed table i → kindAt (nodeAt table i .kind) ≡ Some k → within (limitsOf k) (nodeAt table i .sub) (nodeAt table i .value) ≡ true

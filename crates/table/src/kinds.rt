@@ -44,7 +44,7 @@ pub enum Class {
 
 // The children that are still to come, under one node.
 #[derive(Clone, Copy)]
-pub enum Form {
+pub(crate) enum Form {
     // none
     Nothing,
     // one expression; two; any number of them
@@ -80,10 +80,10 @@ pub enum Form {
 
 // What the sub and the value of a record may be: sub from low to high, value to most.
 #[derive(Clone, Copy)]
-pub struct Limits {
-    pub low: u32,
-    pub high: u32,
-    pub most: u32,
+pub(crate) struct Limits {
+    low: u32,
+    high: u32,
+    most: u32,
 }
 
 // Names are numbers to 1,023.
