@@ -18,6 +18,10 @@ use Rattle.table.specs.Layout.Branches.{nil, cons}
 use Rattle.table.specs.Lays.{Lays, LaysAll}
 use Rattle.table.proofs.Numbered.{kind-same}
 
+-- a branch stands at a node of the table
+pub lays-here : (b : Branch) (table : List Node) (i : ℕ) → Lays b table i → i < length table
+lays-here (branch k s v p bs) table i l = l .0
+
 -- a branch ends where the table says
 mutual
   pub lays-end : (b : Branch) (table : List Node) (i : ℕ) → Lays b table i → endAt table i ≡ endOf i b
