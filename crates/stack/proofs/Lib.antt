@@ -1,0 +1,4 @@
+pub mod Over
+pub mod Alike
+pub mod Agree
+pub mod Locals
