@@ -2,3 +2,4 @@ pub mod Over
 pub mod Alike
 pub mod Agree
 pub mod Locals
+pub mod Steps
