@@ -87,6 +87,11 @@ agrees-spread w r (Ok (next t m)) h = h .0
 agrees-spread w r (Ok (ended v)) h = h
 agrees-spread w r (Err e) h = h
 
+-- where both go on
+pub agrees-next : (w : List Cell) (r : Result marked.Went Halt) (t : Stack) (m : Meaning) → Agrees w r (Ok (next t m)) → (r ≡ Ok (marked.next (laidOver w t) m)) × (length (t .cells) ≤ length w)
+unfolding Agrees
+agrees-next w r t m h = h
+
 -- states are equal where their parts are
 pub state-same : {c c′ b b′ n n′ : ℕ} {k k′ : List Cell} → c ≡ c′ → b ≡ b′ → n ≡ n′ → k ≡ k′ → _≡_ {A = State} (record { counter = c; base = b; top = n; cells = k }) (record { counter = c′; base = b′; top = n′; cells = k′ })
 state-same p q r s = λ i. record { counter = p i; base = q i; top = r i; cells = s i }

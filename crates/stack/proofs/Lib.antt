@@ -3,3 +3,4 @@ pub mod Alike
 pub mod Agree
 pub mod Locals
 pub mod Steps
+pub mod Runs
