@@ -1,6 +1,6 @@
 -- A table whose nodes are as listed has a branch whose children are those of their forms, and the other way round. Assumes nothing.
 use mathlib.Core.Path.{_≡_, refl, sym, ap, subst, _∙_}
-use mathlib.Core.Bool.{Bool, true, false, cond, not, _&&_}
+use mathlib.Core.Bool.{true, false, cond, not, _&&_}
 use mathlib.Core.List.{List}
 use mathlib.Core.Logic.{inl, inr}
 use Prim.Native.Nat.{ℕ, zero, suc, _+_, _*_, _<_, _≤_}
@@ -24,7 +24,7 @@ use Rattle.table.specs.Layout.{Branch, Branches, Limited, LimitedAll}
 use Rattle.table.specs.Layout.Branch.{branch}
 use Rattle.table.specs.Layout.Branches.{nil, cons}
 use Rattle.table.specs.Lays.{Lays, LaysAll}
-use Rattle.table.proofs.Chains.{classAt, Step, unchain}
+use Rattle.table.proofs.Chains.{classAt, unchain}
 use Rattle.table.proofs.Numbered.{kind-back, kind-number, none-some}
 use Rattle.table.proofs.Placed.{lays-rises, lays-rises-all}
 

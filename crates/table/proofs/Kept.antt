@@ -1,9 +1,7 @@
 -- The branch of a tree has at every node the children of its form. Assumes nothing.
-use mathlib.Core.Path.{_≡_, refl, sym, ap, subst, _∙_}
-use mathlib.Core.Bool.{true}
+use mathlib.Core.Path.{_≡_, refl, ap, _∙_}
 use mathlib.Core.List.{List, [], _∷_}
 use Rattle.std.specs.declared.option.Option.the-variants.{Some}
-use Rattle.table.specs.declared.kinds.Class.{Class}
 use Rattle.table.specs.declared.kinds.Class.the-variants as classes
 use Rattle.table.specs.declared.kinds.Form.{Form}
 use Rattle.table.specs.declared.kinds.Form.the-variants as forms
@@ -21,8 +19,7 @@ use Rattle.table.specs.Tree.Declaration.{variable, function}
 use Rattle.table.specs.Tree.Declarations.{noDeclarations, declaration}
 use Rattle.table.specs.Tree.Body.{body}
 use Rattle.table.specs.Tree.Program.{single, whole}
-use Rattle.table.specs.Layout.{Branch, Branches, ofExpression, ofArguments, ofStatement, ofStatements, ofBlock, ofValueBlock, ofFinal, ofParameter, ofParameters, ofDeclaration, ofDeclarations, ofBody, ofProgram}
-use Rattle.table.specs.Layout.Branch.{branch}
+use Rattle.table.specs.Layout.{Branches, ofExpression, ofArguments, ofStatement, ofStatements, ofBlock, ofValueBlock, ofFinal, ofParameter, ofParameters, ofDeclaration, ofDeclarations, ofBody, ofProgram}
 use Rattle.table.specs.Layout.Branches.{nil, cons}
 use Rattle.table.proofs.Formed.{classOfBranch, Fit, Formed, FormedAll}
 

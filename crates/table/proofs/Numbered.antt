@@ -1,13 +1,12 @@
 -- Kinds, types and operators are told apart by their numbers. Assumes nothing.
-use mathlib.Core.Path.{_≡_, refl, sym, ap, _∙_}
+use mathlib.Core.Path.{_≡_, refl, ap, _∙_}
 use mathlib.Core.Bool.{Bool, true, false, cond}
-use mathlib.Core.Logic.{_⊎_, inl, inr}
 use Prim.Native.Nat.{ℕ}
 use native.Mathlib.Omega.{arith}
 use lib.Dec.{eqb}
 use Rattle.std.specs.declared.option.Option.{Option}
 use Rattle.std.specs.declared.option.Option.the-variants.{Some, None}
-use Rattle.std.proofs.shelf.Tests.{cases-bool, eqb-true}
+use Rattle.std.proofs.shelf.Tests.{eqb-true}
 use Rattle.language.specs.declared.values.ValueType.{ValueType}
 use Rattle.language.specs.declared.values.ValueType.the-variants as types
 use Rattle.language.specs.declared.values.Operator.{Operator}

@@ -3,12 +3,10 @@ use mathlib.Core.Path.{_≡_, refl, sym, ap, subst, _∙_}
 use mathlib.Core.List.{List, [], _∷_, _++_, append-assoc}
 use Prim.Native.Nat.{ℕ, _+_, _<_, _≤_}
 use native.Mathlib.Omega.{arith}
-use native.Mathlib.Nat.{lt-irrefl}
-use lib.ListN.{length, drop, getD}
+use lib.ListN.{length, drop}
 use mathlib.Core.Logic.{inl, inr}
 use Rattle.std.proofs.shelf.Lists.{drop-more, drop-all}
 use Rattle.std.proofs.shelf.Tests.{cases-lt}
-use Rattle.table.specs.declared.kinds.Kind.{Kind}
 use Rattle.table.specs.declared.nodes.Node.{Node}
 use Rattle.table.specs.Kinds.{kindNumber}
 use Rattle.table.specs.Listed.{nodeAt, endAt, blank}

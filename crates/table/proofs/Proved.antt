@@ -1,13 +1,12 @@
 -- The theorems on tables and trees. Assumes nothing.
 use mathlib.Core.Path.{_≡_, refl, sym, ap, subst, _∙_}
-use mathlib.Core.Bool.{true, _&&_}
-use mathlib.Core.List.{List, [], _∷_, _++_, append-nil}
+use mathlib.Core.Bool.{true}
+use mathlib.Core.List.{List, [], _++_, append-nil}
 use mathlib.Core.Logic.{inl, inr}
-use Prim.Native.Nat.{ℕ, zero, suc, _+_, _<_, _≤_}
+use Prim.Native.Nat.{ℕ, _+_, _<_}
 use native.Mathlib.Omega.{arith}
 use lib.Dec.{eqb}
-use lib.ListN.{length, drop, length-append}
-use Rattle.std.specs.declared.result.Result.{Result}
+use lib.ListN.{length, length-append}
 use Rattle.std.specs.declared.result.Result.the-variants.{Ok, Err}
 use Rattle.std.proofs.shelf.Lists.{drop-all}
 use Rattle.std.proofs.shelf.Tests.{and-parts, and-from, eqb-true, eq-eqb, cases-eq, cases-order}
@@ -23,10 +22,9 @@ use Rattle.table.specs.Layout.Branch.{branch}
 use Rattle.table.specs.Layout.Branches.{nil, cons}
 use Rattle.table.specs.Listed.{nodeAt, endAt, standing, Listed, AllListed, Lowest}
 use Rattle.table.specs.Lays.{Lays}
-use Rattle.table.specs.Answers.{Sized, fault, Refused, Answer}
+use Rattle.table.specs.Answers.{Sized, fault, Refused}
 use Rattle.table.specs.Answers.Refused.{length-is-none, node-is-bad}
 use Rattle.table.specs.Theorems.{ListedJustWhenLaidOut, OneTree, RefusedAtLowest, OneAnswer}
-use Rattle.table.proofs.Chains.{classAt}
 use Rattle.table.proofs.Placed.{lays-end, lays-records, records-lays, lays-unique}
 use Rattle.table.proofs.Formed.{classOfBranch, built, lays-listed, below-listed}
 use Rattle.table.proofs.Typed.{Is, typed}

@@ -1,17 +1,16 @@
 -- What a list of trees is, where a table has it from one node to a stop: for those who read the table node by node and look at the number, or at the class of the node that stands there. Assumes nothing.
-use mathlib.Core.Path.{_≡_, refl, sym, ap, subst, _∙_}
+use mathlib.Core.Path.{_≡_, refl, sym, subst, _∙_}
 use mathlib.Core.Bool.{true}
 use mathlib.Core.List.{List, [], _∷_}
 use Prim.Native.Nat.{ℕ, _+_, _<_, _≤_}
 use native.Mathlib.Omega.{arith}
-use lib.ListN.{length}
 use Rattle.std.specs.declared.option.Option.the-variants.{Some}
 use Rattle.table.specs.declared.kinds.Kind.{Kind}
 use Rattle.table.specs.declared.kinds.Class.{Class}
 use Rattle.table.specs.declared.kinds.Class.the-variants as classes
 use Rattle.table.specs.declared.nodes.Node.{Node}
 use Rattle.table.specs.Kinds.{kindAt, limitsOf, within}
-use Rattle.table.specs.Tree.{Expression, Arguments, Statement, Statements, Block, Final, Parameter, Declaration, Declarations, Body, Program}
+use Rattle.table.specs.Tree.{Expression, Arguments, Statement, Statements, Final, Parameter, Declaration, Declarations, Body, Program}
 use Rattle.table.specs.Tree.Arguments.{noArguments, argument}
 use Rattle.table.specs.Tree.Statements.{noStatements, statement}
 use Rattle.table.specs.Tree.Final.{noFinal, final}
@@ -24,8 +23,8 @@ use Rattle.table.specs.Lays.{Lays, LaysAll}
 use Rattle.table.proofs.Chains.{classAt}
 use Rattle.table.proofs.Numbered.{some-same}
 use Rattle.table.proofs.Placed.{lays-rises, lays-rises-all}
-use Rattle.table.proofs.Formed.{classOfBranch, class-of-lays}
-use Rattle.table.proofs.Kept.{expression-class, statement-class, parameter-class, declaration-class, body-class}
+use Rattle.table.proofs.Formed.{class-of-lays}
+use Rattle.table.proofs.Kept.{expression-class, statement-class, parameter-class, declaration-class}
 use Rattle.table.proofs.Unique.{Lacks, body-lacks, expression-not-declaration}
 
 -- a first branch stands short of the stop

@@ -14,7 +14,7 @@ use Rattle.table.specs.declared.kinds.Class.the-variants as classes
 use Rattle.table.specs.declared.nodes.Node.{Node}
 use Rattle.table.specs.Kinds.{kindAt, classOf}
 use Rattle.table.specs.Listed.{nodeAt, endAt}
-use Rattle.table.specs.Tree.{Expression, Arguments, Statement, Statements, Block, ValueBlock, Final, Parameter, Declaration, Declarations, Body, Program}
+use Rattle.table.specs.Tree.{Expression, Arguments, Statement, Statements, Block, ValueBlock, Final, Parameter, Declaration, Declarations, Body}
 use Rattle.table.specs.Tree.Expression.{integer, truth, read, negation, operation, choice, call}
 use Rattle.table.specs.Tree.Statement.{assignment, callStatement, ifThen, ifElse}
 use Rattle.table.specs.Tree.Block.{block}

@@ -3,7 +3,6 @@ use native.Mathlib.Omega.{arith}
 use borrow.Author.Count.{below-more}
 use borrow.Author.Needs.{needs}
 use Rattle.std.proofs.shelf.Ways.{not-from-decides}
-use Rattle.table.specs.Listed.{Listed}
 use Rattle.table.specs.Answers.Refused.{length-is-none, node-is-bad}
 use Rattle.table.proofs.Proved.{listed-laid-out}
 use Rattle.table.proofs.checking.check.Needs as need
