@@ -36,7 +36,7 @@ fn lengths() -> Result<(), Fail> {
     check_eq(refusal(&[1, 0], 1, 1), 61).note("no number")?;
     check_eq(refusal(&[1, 0, 5], 1, 1), 61).note("no value")?;
     check_eq(refusal(&[1, 1, 5, 5, 0], 1, 1), 61).note("one value short")?;
-    check_eq(refusal(&[256; 5000], 1, 1), 61).note("huge")?;
+    check_eq(refusal(&[256; 1028], 1, 1), 61).note("longer than any record")?;
     check_eq(refusal(&[257, 0], 1, 1), 61).note("a count above 256")?;
     check_eq(refusal(&[0, 257], 1, 1), 61).note("the other above 256")?;
     check_eq(refusal(&[2_147_483_648, 2_147_483_648], 1, 1), 61).note("counts whose sum wraps")?;
@@ -80,6 +80,16 @@ fn answers() -> Result<(), Fail> {
     check_eq(host.total(2), None)?;
     check_eq(host.accounts(), 2)?;
     check_eq(host.lines(), 3)
+}
+
+// An amount of 12,000 for field 0 and of -5 for field 3, and a flag for field 1.
+#[test]
+fn example() -> Result<(), Fail> {
+    let host = made(&[2, 1, 0, 3, 1, 12_000, 4_294_967_291, 1], 1, 1)?;
+    check_eq(host.amount(0), Ok(12_000))?;
+    check_eq(host.amount(3), Ok(-5))?;
+    check_eq(host.flag(1), Ok(true))?;
+    check_eq(host.amount(1), Err(Stop::NothingThere))
 }
 
 // Every field with an amount and a flag, the longest record there is.
