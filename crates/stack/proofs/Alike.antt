@@ -1,7 +1,7 @@
 -- Frames depend on the cells below their limit alone. Assumes nothing.
-use mathlib.Core.Path.{_≡_, refl, sym, ap, subst, _∙_}
+use mathlib.Core.Path.{_≡_, refl, ap, subst, _∙_}
 use mathlib.Core.Bool.{Bool, true, false, cond}
-use Prim.Native.Nat.{ℕ, zero, suc, _+_, _-_, _≤_, _<_}
+use Prim.Native.Nat.{ℕ, zero, suc, _+_, _≤_, _<_}
 use native.Mathlib.Omega.{arith}
 use lib.Dec.{ltb, leb}
 use Rattle.std.proofs.shelf.Tests.{ltb-true, leb-true}
@@ -11,7 +11,7 @@ use Rattle.language.specs.declared.faults.Halt.{Halt}
 use Rattle.image.specs.declared.instruction.Slot.{Slot}
 use Rattle.machine.specs.declared.cells.Cell.{Cell}
 use Rattle.machine.specs.declared.frames.Frame.{Frame}
-use Rattle.machine.specs.Cells.{bind, link, noFrame, present, times, value}
+use Rattle.machine.specs.Cells.{bind, link, present, times, value}
 use Rattle.machine.specs.Frames.{within, frame, hop, outer, slotIn, place, caller, fourLinks, presentAt, valueAt, arguments}
 
 -- two ways to read that agree below a limit

@@ -1,16 +1,14 @@
 -- The instructions that touch the machine and its cells alone, on whole cells and on the stack. Assumes nothing.
 use mathlib.Core.Path.{_≡_, refl, sym, ap, subst, _∙_}
-use mathlib.Core.Bool.{Bool, true, false, cond}
+use mathlib.Core.Bool.{cond}
 use mathlib.Core.List.{List, [], _∷_, _++_}
-use Prim.Native.Nat.{ℕ, zero, suc, _+_, _-_, _≤_, _<_}
+use Prim.Native.Nat.{ℕ, suc, _+_, _-_, _≤_, _<_}
 use native.Mathlib.Omega.{arith}
-use lib.Dec.{ltb, leb}
-use lib.ListN.{length, drop, set, getD, replicate, length-append, length-replicate, length-drop}
+use lib.Dec.{leb}
+use lib.ListN.{length, drop, set, replicate, length-append, length-replicate, length-drop}
 use lib.Seq.{drop-drop}
 use Rattle.std.proofs.shelf.Tests.{leb-true}
-use Rattle.std.specs.declared.result.Result.{Result}
-use Rattle.std.specs.declared.result.Result.the-variants.{Ok, Err}
-use Rattle.language.specs.declared.faults.Halt.{Halt}
+use Rattle.std.specs.declared.result.Result.the-variants.{Ok}
 use Rattle.language.specs.declared.values.Value.{Value}
 use Rattle.language.specs.declared.values.Operator.{Operator}
 use Rattle.language.specs.Operators.{applied, negated}
@@ -21,11 +19,11 @@ use Rattle.image.specs.declared.instruction.Local.the-variants.{PushNumber, Pus
 use Rattle.machine.specs.declared.cells.Cell.{Cell}
 use Rattle.machine.specs.declared.cells.Cell.the-variants.{Unset, Number, Truth, Link}
 use Rattle.machine.specs.declared.frames.Frame.{Frame}
-use Rattle.machine.specs.Cells.{bind, cellOf, link, value, truth, values}
+use Rattle.machine.specs.Cells.{cellOf, link, value, truth, values}
 use Rattle.machine.specs.Frames.{at, arguments, caller, fourLinks, outer, place}
-use Rattle.machine.specs.State.{State, noRoom, under, pushed, loaded, stored, replaced, dropped, operated, turned, discarded, jumped, branched, opened, called, cleared, laid, returned, returnedValue}
+use Rattle.machine.specs.State.{State, noRoom, pushed, loaded, stored, replaced, operated, turned, discarded, jumped, branched, opened, called, cleared, laid, returned, returnedValue}
 use Rattle.machine.specs.Step.{local}
-use Rattle.stack.specs.Stack.{carryLocal, Stack, stack, cellAt, setAt, holds, push, load, store, operate, negate, discard, branch, openLinks, framed, callTo, below, giveBack, giveBackValue, onTo}
+use Rattle.stack.specs.Stack.{carryLocal, stack, cellAt, setAt, holds, push, load, store, operate, negate, discard, branch, openLinks, framed, callTo, below, giveBack, giveBackValue, onTo}
 use Rattle.stack.specs.Law.{over, whole, laidOver}
 use Rattle.stack.proofs.Over.{length-over, drop-over, read-top, read-below, set-below, length-setAt, again, put, put-four, cleared-over, above-below}
 use Rattle.stack.proofs.Alike.{given, Found, outer-same, place-same, place-found, caller-same, fourLinks-same, arguments-same}
@@ -89,6 +87,7 @@ pub lowered : (c b n : ℕ) (s j : List Cell) → n ≡ length s → _≡_ {A = 
 lowered c b n s j e = state-same refl refl e (sym (again (over s j) s j refl))
 
 module _ (c b : ℕ) where
+  -- each instruction by itself, at a counter and a base; push needs no frame
   push-agree : (s j : List Cell) (x : Cell) → Agree (over s j) (pushed x (whole (stack c b s) j)) (push (length (over s j)) x (stack c b s))
   push-agree s j x =
       subst (λ n. Agree (over s j) (pushed x (whole (stack c b s) j)) (cond (leb n (length (over s j))) (onTo (stack c b s) (x ∷ s)) noRoom)) one-more
@@ -100,6 +99,7 @@ module _ (c b : ℕ) where
       one-more = omega arith
 
   module _ (f : Frame) where
+    -- and the others, in a frame
     load-agree : (s j : List Cell) (slot : Slot) → Found (length s) f → Agree (over s j) (loaded slot f (whole (stack c b s) j)) (load (length (over s j)) slot f (stack c b s))
     load-agree s j slot q =
         agree-bind (over s j) (place (at (over s j)) f slot) (place (cellAt s) f slot) _ _ (place-same (at (over s j)) (cellAt s) (length s) (read-below s j) f slot (omega arith)) λ k e.

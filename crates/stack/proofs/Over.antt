@@ -1,8 +1,7 @@
 -- A stack laid under what lies above it: reads, writes, lengths. Assumes nothing.
-use mathlib.Core.Path.{_≡_, refl, sym, ap, subst, _∙_}
-use mathlib.Core.Bool.{Bool, true, false, cond}
+use mathlib.Core.Path.{_≡_, refl, sym, ap, _∙_}
 use mathlib.Core.List.{List, [], _∷_, _++_, reverse, reverseAux, reverseAux-eq}
-use Prim.Native.Nat.{ℕ, zero, suc, _+_, _-_, _≤_, _<_}
+use Prim.Native.Nat.{ℕ, zero, suc, _+_, _≤_, _<_}
 use native.Mathlib.Omega.{arith}
 use lib.Dec.{eqb}
 use lib.ListN.{length, drop, set, getD, replicate, length-append, length-replicate, length-reverse}
@@ -14,10 +13,12 @@ use Rattle.machine.specs.State.{cleared}
 use Rattle.stack.specs.Stack.{cellAt, setAt}
 use Rattle.stack.specs.Law.{over}
 
+-- how many cells there are
 pub length-over : (s j : List Cell) → length (over s j) ≡ length s + length j
 length-over [] j = omega arith
 length-over (c ∷ s) j = let e = length-over s (c ∷ j) in omega arith
 
+-- the stack from the bottom up, then what lies above it
 over-aux : (s j : List Cell) → over s j ≡ reverseAux s j
 over-aux [] j = refl
 over-aux (c ∷ s) j = over-aux s (c ∷ j)
@@ -38,6 +39,10 @@ pub set-top : (s : List Cell) (k : ℕ) (c v : Cell) (j : List Cell) → length 
 set-top s k c v j e =
     ap (λ l. set l k v) (over-is s (c ∷ j)) ∙ set-at (reverse s) c j v k (length-reverse s ∙ e) ∙ sym (over-is s (v ∷ j))
 
+-- below, and not the one just below
+lower : (k n : ℕ) → (k ≡ n → ⊥) → k < suc n → k < n
+lower k n d h = omega arith
+
 -- a cell below the top, read and written
 pub read-below : (s j : List Cell) (k : ℕ) → k < length s → getD (over s j) k Unset ≡ cellAt s k
 read-below [] j k h = absurd (omega arith)
@@ -45,9 +50,6 @@ read-below (c ∷ s) j k h =
     cond-both (eqb k (length s)) c (cellAt s k) (λ x. getD (over s (c ∷ j)) k Unset ≡ x)
     (λ e. ap (λ n. getD (over s (c ∷ j)) n Unset) (eqb-true k (length s) e) ∙ read-top s c j)
     (λ e. read-below s (c ∷ j) k (lower k (length s) (eqb-false k (length s) e) h))
-  where
-    lower : (k n : ℕ) → (k ≡ n → ⊥) → k < suc n → k < n
-    lower k n d h = omega arith
 
 pub set-below : (s j : List Cell) (k : ℕ) (v : Cell) → k < length s → set (over s j) k v ≡ over (setAt s k v) j
 set-below [] j k v h = absurd (omega arith)
@@ -55,10 +57,8 @@ set-below (c ∷ s) j k v h =
     cond-both (eqb k (length s)) (v ∷ s) (c ∷ setAt s k v) (λ x. set (over s (c ∷ j)) k v ≡ over x j)
     (λ e. set-top s k c v j (sym (eqb-true k (length s) e)))
     (λ e. set-below s (c ∷ j) k v (lower k (length s) (eqb-false k (length s) e) h))
-  where
-    lower : (k n : ℕ) → (k ≡ n → ⊥) → k < suc n → k < n
-    lower k n d h = omega arith
 
+-- a write leaves the number of cells as it was
 pub length-setAt : (s : List Cell) (k : ℕ) (v : Cell) → length (setAt s k v) ≡ length s
 length-setAt [] k v = refl
 length-setAt (c ∷ s) k v =

@@ -2,7 +2,7 @@
 use mathlib.Core.Path.{_≡_, refl, sym, ap, subst, _∙_}
 use mathlib.Core.Bool.{Bool, true, false, cond}
 use mathlib.Core.List.{List, [], _∷_, _++_, reverse}
-use Prim.Native.Nat.{ℕ, zero, suc, _+_, _-_, _≤_, _<_}
+use Prim.Native.Nat.{ℕ, zero, suc, _+_, _≤_}
 use native.Mathlib.Omega.{arith}
 use lib.Dec.{ltb}
 use lib.ListN.{length, take, drop, replicate, length-append, length-replicate, length-drop, length-reverse, take-append-drop}
@@ -19,15 +19,14 @@ use Rattle.host.specs.Serves.{byMeaning}
 use Rattle.image.specs.declared.instruction.Header.{Header}
 use Rattle.machine.specs.declared.cells.Cell.{Cell}
 use Rattle.machine.specs.declared.cells.Cell.the-variants.{Unset, Link}
-use Rattle.machine.specs.State.{State}
 use Rattle.machine.specs.Step.{stepped}
 use Rattle.machine.specs.Step as marked
 use Rattle.machine.specs.Run.{Run, plus, onward, ran}
 use Rattle.machine.specs.Begin.{begun}
 use Rattle.machine.specs.Begin as begins
-use Rattle.stack.specs.Stack.{Stack, stack, Went, next, ended, step, thenRun, run, beginning}
+use Rattle.stack.specs.Stack.{Stack, Went, next, ended, step, thenRun, run, beginning}
 use Rattle.stack.specs.Stack as stacks
-use Rattle.stack.specs.Law.{over, whole, laidOver, spread, wholeRun, Shows, RunIsTheStacks, stackOf, StatesAreWhole, StepOfAnyState, RunOfAnyState, BeginningIsTheStacks, Told, told, fromBegin, LeftoversDoNotMatter}
+use Rattle.stack.specs.Law.{over, whole, spread, Shows, RunIsTheStacks, stackOf, StatesAreWhole, StepOfAnyState, RunOfAnyState, BeginningIsTheStacks, Told, told, AboveDoesNotMatter, fromBegin, LeftoversDoNotMatter}
 use Rattle.stack.proofs.Over.{length-over, over-is, cleared-over}
 use Rattle.stack.proofs.Agree.{Agrees, agrees-next, agrees-spread, state-same}
 use Rattle.stack.proofs.Steps.{step-agrees, step-is-the-stacks}
@@ -62,6 +61,16 @@ module _ (words : List ℕ) (header : Header) where
 
 pub run-is-the-stacks : RunIsTheStacks
 run-is-the-stacks words header n m t junk = shows words header n (length (over (t .cells) junk)) m t junk refl
+
+-- what a run tells, by the stack and the number of cells alone
+abbrev toldBy : stacks.Run Meaning → Told
+toldBy r = record { steps = r .steps; outcome = r .outcome; meaning = r .host }
+
+pub above-does-not-matter : AboveDoesNotMatter
+above-does-not-matter words header n m t junk junk′ e =
+    let limit = length (over (t .cells) junk) in
+    let e′ : length (over (t .cells) junk′) ≡ limit = omega (arith, length-over (t .cells) junk, length-over (t .cells) junk′) in
+    ap told (shows words header n limit m t junk refl .1) ∙ sym (ap told (shows words header n limit m t junk′ e′ .1))
 
 -- any state
 cells-are-whole : (n : ℕ) (cells : List Cell) → over (reverse (take n cells)) (drop n cells) ≡ cells
@@ -100,17 +109,15 @@ beginning-is-the-stacks others (a ∷ b ∷ c ∷ d ∷ rest) h =
     state-same refl refl (sym (length-beginning others))
     (cleared-over others (programLinks others) rest 4 refl (omega arith) ∙ ap (over (beginning others .cells)) (drop-drop others 4 (a ∷ b ∷ c ∷ d ∷ rest)))
 
--- what a run tells, by the number of cells alone
+-- what a run tells that begins on so many cells
 module _ (words : List ℕ) (header : Header) (n : ℕ) (m : Meaning) (others : ℕ) where
-  abbrev toldBy : ℕ → Told
-  toldBy limit =
-      let r = run byMeaning words header limit n m (beginning others) in
-      record { steps = r .steps; outcome = r .outcome; meaning = r .host }
+  abbrev stackRun : ℕ → stacks.Run Meaning
+  stackRun limit = run byMeaning words header limit n m (beginning others)
 
   abbrev byNumber : ℕ → Result Told BeginRefusal
-  byNumber limit = cond (ltb limit (4 + others)) (Err CellCount) (cond (ltb 65536 limit) (Err CellCount) (Ok (toldBy limit)))
+  byNumber limit = cond (ltb limit (4 + others)) (Err CellCount) (cond (ltb 65536 limit) (Err CellCount) (Ok (toldBy (stackRun limit))))
 
-  told-begun : (cells : List Cell) → 4 + others ≤ length cells → told (ran words header n m (begins.beginning others cells)) ≡ toldBy (length cells)
+  told-begun : (cells : List Cell) → 4 + others ≤ length cells → told (ran words header n m (begins.beginning others cells)) ≡ toldBy (stackRun (length cells))
   told-begun cells h =
       ap (λ s. told (ran words header n m s)) (beginning-is-the-stacks others cells h)
       ∙ ap told (shows words header n (length cells) m (beginning others) (drop (4 + others) cells)
@@ -119,7 +126,7 @@ module _ (words : List ℕ) (header : Header) (n : ℕ) (m : Meaning) (others : 
   by-number : (cells : List Cell) → fromBegin words header n m (begun others cells) ≡ byNumber (length cells)
   by-number cells = go (ltb (length cells) (4 + others)) (ltb 65536 (length cells)) (ltb-false (length cells) (4 + others))
     where
-      go : (x y : Bool) → (x ≡ false → 4 + others ≤ length cells) → fromBegin words header n m (cond x (Err CellCount) (cond y (Err CellCount) (Ok (begins.beginning others cells)))) ≡ cond x (Err CellCount) (cond y (Err CellCount) (Ok (toldBy (length cells))))
+      go : (x y : Bool) → (x ≡ false → 4 + others ≤ length cells) → fromBegin words header n m (cond x (Err CellCount) (cond y (Err CellCount) (Ok (begins.beginning others cells)))) ≡ cond x (Err CellCount) (cond y (Err CellCount) (Ok (toldBy (stackRun (length cells)))))
       go true y h = refl
       go false true h = refl
       go false false h = ap Ok (told-begun cells (h refl))

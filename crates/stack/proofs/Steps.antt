@@ -1,7 +1,7 @@
 -- One step, on whole cells and on the stack. Assumes nothing.
 use mathlib.Core.Path.{_≡_, refl, sym, ap, subst, _∙_}
 use mathlib.Core.List.{List, [], _∷_}
-use Prim.Native.Nat.{ℕ, zero, suc, _+_, _-_, _≤_, _<_}
+use Prim.Native.Nat.{ℕ, _+_, _-_}
 use native.Mathlib.Omega.{arith}
 use lib.IntN.{ℤ}
 use lib.ListN.{length}
@@ -26,13 +26,13 @@ use Rattle.machine.specs.declared.frames.Frame.{Frame}
 use Rattle.machine.specs.Cells.{bind, cellOf, number, numbers, value}
 use Rattle.machine.specs.Frames.{at, frame}
 use Rattle.machine.specs.State.{State, replaced, dropped}
-use Rattle.machine.specs.Step.{amountAsked, flagAsked, posted, endsVoid, endsWith, endValue, local, carried, stepped}
+use Rattle.machine.specs.Step.{amountAsked, flagAsked, posted, endsVoid, endsWith, local, carried, stepped}
 use Rattle.machine.specs.Step as marked
-use Rattle.stack.specs.Stack.{Stack, stack, cellAt, Went, next, ended, holds, ask, post, carryLocal, carry, step}
-use Rattle.stack.specs.Law.{over, whole, laidOver, StepIsTheStacks}
+use Rattle.stack.specs.Stack.{Stack, stack, cellAt, next, holds, ask, post, carryLocal, carry, step}
+use Rattle.stack.specs.Law.{over, whole, StepIsTheStacks}
 use Rattle.stack.proofs.Over.{read-below}
 use Rattle.stack.proofs.Alike.{given, Found, frame-found, frame-same}
-use Rattle.stack.proofs.Agree.{Agrees, agrees-ok, agrees-ended, agrees-halts, agrees-bind, agrees-onward, agrees-spread, held}
+use Rattle.stack.proofs.Agree.{Agrees, agrees-ok, agrees-ended, agrees-halts, agrees-bind, agrees-onward, agrees-spread}
 use Rattle.stack.proofs.Locals.{fits, top-one, top-two, replaced-one, lowered, local-agree}
 
 -- one thing after another, however it is bracketed

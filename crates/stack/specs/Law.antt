@@ -49,7 +49,7 @@ StepIsTheStacks =
 abbrev pub wholeRun : stacks.Run Meaning → List Cell → Run
 wholeRun r junk = record { steps = r .steps; outcome = r .outcome; state = whole (r .stack) junk; meaning = r .host }
 
--- a run on whole cells is a run of the stack, with something above its top that fills up the same number of cells
+-- A run on whole cells is a run of the stack, with something above its top that fills up the same number of cells. It need not be what lay there before: a value that was pushed and taken stays in its cell
 abbrev pub Shows : ℕ → stacks.Run Meaning → Run → Type 0
 Shows limit r q = (junk : List Cell) × (q ≡ wholeRun r junk) × (length (over (r .stack .cells) junk) ≡ limit)
 
@@ -67,13 +67,14 @@ stackOf s = stack (s .counter) (s .base) (reverse (take (s .top) (s .cells)))
 abbrev pub StatesAreWhole : Type 0
 StatesAreWhole = (s : State) → s .top ≤ length (s .cells) → s ≡ whole (stackOf s) (drop (s .top) (s .cells))
 
--- so the two laws speak of every such state
+-- So the law of one step speaks of every such state
 abbrev pub StepOfAnyState : Type 0
 StepOfAnyState =
     (words : List ℕ) (header : Header) (m : Meaning) (s : State)
     → s .top ≤ length (s .cells)
     → marked.stepped words header m s ≡ spread (s .cells) (step byMeaning words header (length (s .cells)) m (stackOf s))
 
+-- and so does the law of a run
 abbrev pub RunOfAnyState : Type 0
 RunOfAnyState =
     (words : List ℕ) (header : Header) (n : ℕ) (m : Meaning) (s : State)
@@ -93,8 +94,16 @@ pub record Told : Type 0 where
   pub outcome : Outcome
   pub meaning : Meaning
 
+-- what this run tells
 abbrev pub told : Run → Told
 told r = record { steps = r .steps; outcome = r .outcome; meaning = r .meaning }
+
+-- What lies above the top does not matter to a run: with as many other cells there it tells the same
+abbrev pub AboveDoesNotMatter : Type 0
+AboveDoesNotMatter =
+    (words : List ℕ) (header : Header) (n : ℕ) (m : Meaning) (t : Stack) (junk junk′ : List Cell)
+    → length junk ≡ length junk′
+    → told (ran words header n m (whole t junk)) ≡ told (ran words header n m (whole t junk′))
 
 -- what a run tells that begins on these cells, where it may begin
 abbrev pub fromBegin : List ℕ → Header → ℕ → Meaning → Result State BeginRefusal → Result Told BeginRefusal
