@@ -189,12 +189,12 @@ finishing Void = instructions.End
 finishing Int = instructions.EndValue
 finishing Truths = instructions.EndValue
 
-return-code : (c : Program) (t : ValueType) → decoded (words c) (header c) 23 (gives t) ≡ Ok (instructions.Local (returning t))
+pub return-code : (c : Program) (t : ValueType) → decoded (words c) (header c) 23 (gives t) ≡ Ok (instructions.Local (returning t))
 return-code c Void = refl
 return-code c Int = refl
 return-code c Truths = refl
 
-end-code : (c : Program) (t : ValueType) → decoded (words c) (header c) 27 (gives t) ≡ Ok (finishing t)
+pub end-code : (c : Program) (t : ValueType) → decoded (words c) (header c) 27 (gives t) ≡ Ok (finishing t)
 end-code c Void = refl
 end-code c Int = refl
 end-code c Truths = refl
@@ -203,10 +203,10 @@ end-code c Truths = refl
 abbrev pub EntryStands : Program → ℕ → Function → Type 0
 EntryStands c a (function q t n o inner body ending) = Stands (c .code) a (laid 22 (256 * n + o) q) × (o < 256)
 
-fetches : {c : Program} {k w x q : ℕ} {i : Instruction} → Stands (c .code) k (laid w x q) → decoded (words c) (header c) w x ≡ Ok i → Fetches c k i q
+pub fetches : {c : Program} {k w x q : ℕ} {i : Instruction} → Stands (c .code) k (laid w x q) → decoded (words c) (header c) w x ≡ Ok i → Fetches c k i q
 fetches {c} h e = record { fetch = fetched-there (c .result) h ∙ e; place = place-there h }
 
-target-code : (c : Program) (x : ℕ) (i : Instruction) → x < length (c .code) → target (header c) x i ≡ Ok i
+pub target-code : (c : Program) (x : ℕ) (i : Instruction) → x < length (c .code) → target (header c) x i ≡ Ok i
 target-code c x i l = cond-true _ _ _ (lt-ltb _ _ l)
 
 call-code : (c : Program) (a : ℕ) (g : Function) → EntryStands c a g → decoded (words c) (header c) 21 a ≡ Ok (instructions.Local (Call (entryOf a g)))
