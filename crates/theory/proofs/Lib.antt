@@ -1,3 +1,4 @@
 pub mod Placed
 pub mod Standing
 pub mod Functions
+pub mod Depth
