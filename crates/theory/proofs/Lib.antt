@@ -2,3 +2,4 @@ pub mod Placed
 pub mod Standing
 pub mod Functions
 pub mod Depth
+pub mod Represent
