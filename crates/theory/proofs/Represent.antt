@@ -301,3 +301,62 @@ variable-there (suc h) k v cells u is (one {b = b} {sk = sk} {f = f} {env = env}
     has : (env : Env) (h : ℕ) → variable env h k ≡ Some v → 0 < length env
     has [] h e = let z : _≡_ {A = ℕ} 0 1 = cc in absurd (omega arith)
     has (f ∷ env) h e = omega arith
+
+-- what setting a variable comes to on the stack that represents the environment
+pub record Assigns (h k : ℕ) (v : Value) (sk : Skeleton) (env env′ : Env) : Type 0 where
+  pub finds : (cells u : List Cell) → cells ≡ u ++ flat sk env → place (cellAt cells) (frameOf sk) (record { hops = h; index = k }) ≡ Ok (slotPlace sk h k)
+  pub low : slotPlace sk h k < height sk
+  pub sets : setAt (flat sk env) (slotPlace sk h k) (cellOf v) ≡ flat sk env′
+  pub fits : Fits sk env′
+
+assigns-here : (k : ℕ) (v : Value) {b : Bone} {sk : Skeleton} {f : Slots} {env : Env} (f′ : Slots) → Fits (b ∷ sk) (f ∷ env) → setSlot f k v ≡ Some f′ → Assigns 0 k v (b ∷ sk) (f ∷ env) (f′ ∷ env)
+assigns-here k v f′ (one {b = b} {sk = sk} {f = f} {env = env} n fits) e =
+    let L = links b (baseOf sk) (b .under ++ flat sk env) in
+    let found = slot-set f L k v f′ e in
+    let R : length (b .under ++ flat sk env) ≡ baseOf (b ∷ sk) = omega (arith, length-append (b .under) (flat sk env), length-flat fits) in
+    let at : baseOf (b ∷ sk) + 4 + k ≡ length L + k = omega arith in
+    let low : baseOf (b ∷ sk) + 4 + k < height (b ∷ sk) = omega (arith, found .0) in
+    record {
+      finds = λ cells u is. cond-true _ _ _ (lt-ltb (baseOf (b ∷ sk) + 4 + k) (height (b ∷ sk)) low);
+      low = low;
+      sets = ap (λ x. setAt (stacked f L) x (cellOf v)) at ∙ found .2;
+      fits = one (found .1 ∙ n) fits;
+    }
+
+assigns-deeper : (h k : ℕ) (v : Value) {b : Bone} {sk : Skeleton} {f : Slots} {env : Env} (env′ : Env) → Fits (b ∷ sk) (f ∷ env) → 0 < length env → Assigns h k v sk env env′ → Assigns (suc h) k v (b ∷ sk) (f ∷ env) (f ∷ env′)
+assigns-deeper h k v env′ (one {b = b} {sk = sk} {f = f} {env = env} n fits) some ih =
+    let low : slotPlace sk h k < length (flat sk env) = omega (arith, ih .low, length-flat fits) in
+    record {
+      finds = λ cells u is.
+        ap (λ r. bind (bind r (times h (hop (cellAt cells)))) (λ g. slotIn g k)) (hop-there cells u is (one n fits) some)
+        ∙ ih .finds cells (u ++ over b sk f) (deeper u b sk f env is);
+      low = omega (arith, ih .low);
+      sets =
+        ap (λ x. setAt x (slotPlace sk h k) (cellOf v)) (flat-over b sk f env)
+        ∙ set-below (over b sk f) (flat sk env) (slotPlace sk h k) (cellOf v) low
+        ∙ ap (λ x. over b sk f ++ x) (ih .sets)
+        ∙ sym (flat-over b sk f env′);
+      fits = one n (ih .fits);
+    }
+
+pub assigned-there : (h k : ℕ) (v : Value) {sk : Skeleton} {env : Env} (env′ : Env) → Fits sk env → setVariable env h k v ≡ Some env′ → Assigns h k v sk env env′
+assigned-there h k v env′ none e = let z : _≡_ {A = ℕ} 0 1 = cc in absurd (omega arith)
+assigned-there zero k v env′ (one {b = b} {sk = sk} {f = f} {env = env} n fits) e = go (setSlot f k v) refl e
+  where
+    go : (r : Option Slots) → setSlot f k v ≡ r → inFront r env ≡ Some env′ → Assigns 0 k v (b ∷ sk) (f ∷ env) env′
+    go None a q = let z : _≡_ {A = ℕ} 0 1 = cc in absurd (omega arith)
+    go (Some f′) a q =
+        let same : f′ ∷ env ≡ env′ = cc in
+        subst (λ x. Assigns 0 k v (b ∷ sk) (f ∷ env) x) same (assigns-here k v f′ (one n fits) a)
+assigned-there (suc h) k v env′ (one {b = b} {sk = sk} {f = f} {env = env} n fits) e =
+    go (setVariable env h k v) refl e (λ g a. assigned-there h k v g fits a)
+  where
+    has : (env : Env) (g : Env) → setVariable env h k v ≡ Some g → 0 < length env
+    has [] g e = let z : _≡_ {A = ℕ} 0 1 = cc in absurd (omega arith)
+    has (f ∷ env) g e = omega arith
+
+    go : (r : Option Env) → setVariable env h k v ≡ r → behind f r ≡ Some env′ → ((g : Env) → setVariable env h k v ≡ Some g → Assigns h k v sk env g) → Assigns (suc h) k v (b ∷ sk) (f ∷ env) env′
+    go None a q rec = let z : _≡_ {A = ℕ} 0 1 = cc in absurd (omega arith)
+    go (Some g) a q rec =
+        let same : f ∷ g ≡ env′ = cc in
+        subst (λ x. Assigns (suc h) k v (b ∷ sk) (f ∷ env) x) same (assigns-deeper h k v g (one n fits) (has env g a) (rec g a))
