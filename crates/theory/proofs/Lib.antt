@@ -6,3 +6,4 @@ pub mod Represent
 pub mod Leads
 pub mod Steps
 pub mod Terms
+pub mod Calls

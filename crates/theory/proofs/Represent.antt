@@ -113,10 +113,10 @@ set-below (x ∷ xs) ys k v h =
     set-under x (xs ++ ys) k v l ∙ ap {B = List Cell} (λ r. x ∷ r) (set-below xs ys k v h)
 
 -- below the slots
-at-stacked : (f : Slots) (rest : List Cell) (k : ℕ) → k < length rest → cellAt (stacked f rest) k ≡ cellAt rest k
+pub at-stacked : (f : Slots) (rest : List Cell) (k : ℕ) → k < length rest → cellAt (stacked f rest) k ≡ cellAt rest k
 at-stacked f rest k h = ap (λ l. cellAt l k) (stacked-front f rest) ∙ at-below (stacked f []) rest k h
 
-set-stacked : (f : Slots) (rest : List Cell) (k : ℕ) (v : Cell) → k < length rest → setAt (stacked f rest) k v ≡ stacked f (setAt rest k v)
+pub set-stacked : (f : Slots) (rest : List Cell) (k : ℕ) (v : Cell) → k < length rest → setAt (stacked f rest) k v ≡ stacked f (setAt rest k v)
 set-stacked f rest k v h =
     ap (λ l. setAt l k v) (stacked-front f rest) ∙ set-below (stacked f []) rest k v h ∙ sym (stacked-front f (setAt rest k v))
 
@@ -162,7 +162,7 @@ slot-set (u ∷ us) rest (suc k) v f′ e = go (setSlot us k v) refl e (λ g a. 
 abbrev pub over : Bone → Skeleton → Slots → List Cell
 over b sk f = stacked f (links b (baseOf sk) (b .under))
 
-stacked-append : (f : Slots) (xs rest : List Cell) → stacked f (xs ++ rest) ≡ stacked f xs ++ rest
+pub stacked-append : (f : Slots) (xs rest : List Cell) → stacked f (xs ++ rest) ≡ stacked f xs ++ rest
 stacked-append [] xs rest = refl
 stacked-append (v ∷ vs) xs rest = stacked-append vs (slotCell v ∷ xs) rest
 
@@ -193,7 +193,7 @@ fits-drop zero fits = fits
 fits-drop (suc h) none = none
 fits-drop (suc h) (one e fits) = fits-drop h fits
 
-fits-rest : {b : Bone} {sk : Skeleton} {f : Slots} {env : Env} → Fits (b ∷ sk) (f ∷ env) → Fits sk env
+pub fits-rest : {b : Bone} {sk : Skeleton} {f : Slots} {env : Env} → Fits (b ∷ sk) (f ∷ env) → Fits sk env
 fits-rest (one e fits) = fits
 
 -- the four links of the first frame
