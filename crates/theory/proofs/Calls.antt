@@ -215,3 +215,127 @@ module _ {S : Type 0} (x : Setting S) (b : Bone) (sk : Skeleton) (h : ℕ) (w : 
       ∙ ap (λ r. onward s (bind r (λ _. bind (arguments read (length rest + 4) m) (λ _. to (length rest))))) four
       ∙ ap (λ r. onward s (bind r (λ _. to (length rest)))) args
       ∙ ap (λ u. onward s (room (x .limit) o (t .cells) (Ok u))) (new-frame b sk h w fits k m o (a + 1) vs (t .cells) is)
+
+-- from the called function's frame back to the caller's
+module _ (b : Bone) (sk : Skeleton) (h : ℕ) (w : List Cell) {env : Env} (fits : Fits (b ∷ sk) env) (slots back : ℕ) (p : List Cell) {f : Slots} {d : Env} (fits′ : Fits (callee slots back (b ∷ sk) h w env ∷ drop h (b ∷ sk)) (f ∷ d)) where
+  abbrev mine : Skeleton
+  mine = callee slots back (b ∷ sk) h w env ∷ drop h (b ∷ sk)
+
+  abbrev cells : List Cell
+  cells = p ++ flat mine (f ∷ d)
+
+  abbrev above : List Cell
+  above = p ++ stacked f (links (callee slots back (b ∷ sk) h w env) (baseOf (drop h (b ∷ sk))) [])
+
+  cells-are : cells ≡ above ++ (w ++ flat (b ∷ sk) (take h env ++ d))
+  cells-are =
+      let L = links (callee slots back (b ∷ sk) h w env) (baseOf (drop h (b ∷ sk))) in
+      ap (λ l. p ++ stacked f (L l)) (under-is b sk h w fits d)
+      ∙ ap (λ l. p ++ l) (stacked-append f (L []) (w ++ flat (b ∷ sk) (take h env ++ d)))
+      ∙ sym (append-assoc p (stacked f (L [])) (w ++ flat (b ∷ sk) (take h env ++ d)))
+
+  caller-fits : Fits (b ∷ sk) (take h env ++ d)
+  caller-fits = fits-back h d fits (fits-rest fits′)
+
+  base-there : baseOf mine ≡ length (w ++ flat (b ∷ sk) (take h env ++ d))
+  base-there = base-is b sk h w fits slots back d (fits-rest fits′)
+
+  caller-there : caller (cellAt cells) (frameOf mine) ≡ Ok (frameOf (b ∷ sk))
+  caller-there =
+      ap (λ c. bind (link c) (λ base. frame (cellAt cells) base (baseOf mine))) (caller-link cells p refl fits′)
+      ∙ frame-there cells (above ++ w) (cells-are ∙ sym (append-assoc above w (flat (b ∷ sk) (take h env ++ d)))) caller-fits (baseOf mine)
+        (omega (arith, base-there, length-append w (flat (b ∷ sk) (take h env ++ d)), length-flat caller-fits))
+
+  back-there : link (cellAt cells (baseOf mine + 2)) ≡ Ok back
+  back-there = ap link (back-link cells p refl fits′)
+
+  below-there : below (baseOf mine) cells ≡ w ++ flat (b ∷ sk) (take h env ++ d)
+  below-there =
+      let rest = w ++ flat (b ∷ sk) (take h env ++ d) in
+      let n : length cells - baseOf mine ≡ length above = omega (arith, ap length cells-are, length-append above rest, base-there) in
+      ap (λ j. drop j cells) n ∙ ap (drop (length above)) cells-are ∙ drop-append-seam above rest
+
+module _ {S : Type 0} (x : Setting S) (b : Bone) (sk : Skeleton) (h : ℕ) (w : List Cell) {env : Env} (fits : Fits (b ∷ sk) env) (slots back : ℕ) (s : S) where
+  return-step : (k q : ℕ) → Fetches (x .program) k (instructions.Local Return) q → (e : Env) → Fits (callee slots back (b ∷ sk) h w env ∷ drop h (b ∷ sk)) e → stepOf x s (conf k (callee slots back (b ∷ sk) h w env ∷ drop h (b ∷ sk)) [] e) ≡ Ok (next (conf back (b ∷ sk) w (take h env ++ tailOf e)) s)
+  return-step k q f [] fits′ = elim fits′ [ ]
+  return-step k q f (g ∷ d) fits′ =
+      let mine = callee slots back (b ∷ sk) h w env ∷ drop h (b ∷ sk) in
+      let cells = flat mine (g ∷ d) in
+      step-at x f [] s fits′
+      ∙ ap
+      (λ r. onward s (bind r (λ g. bind (link (cellAt cells (baseOf mine + 2))) (λ next. Ok (stack next (g .base) (below (baseOf mine) cells))))))
+      (caller-there b sk h w fits slots back [] fits′)
+      ∙ ap (λ r. onward s (bind r (λ next. Ok (stack next (baseOf (b ∷ sk)) (below (baseOf mine) cells))))) (back-there b sk h w fits slots back [] fits′)
+      ∙ ap {B = Result (Went S) Halt} (λ l. Ok (next (stack back (baseOf (b ∷ sk)) l) s)) (below-there b sk h w fits slots back [] fits′)
+
+  return-value-step : (k q : ℕ) → Fetches (x .program) k (instructions.Local ReturnValue) q → (v : Value) (e : Env) → Fits (callee slots back (b ∷ sk) h w env ∷ drop h (b ∷ sk)) e → stepOf x s (conf k (callee slots back (b ∷ sk) h w env ∷ drop h (b ∷ sk)) (cellOf v ∷ []) e) ≡ Ok (next (conf back (b ∷ sk) (cellOf v ∷ w) (take h env ++ tailOf e)) s)
+  return-value-step k q f v [] fits′ = elim fits′ [ ]
+  return-value-step k q f v (g ∷ d) fits′ =
+      let mine = callee slots back (b ∷ sk) h w env ∷ drop h (b ∷ sk) in
+      let cells = cellOf v ∷ flat mine (g ∷ d) in
+      let to = λ (next : ℕ) (base : ℕ). bind (value (cellOf v)) (λ v. Ok (stack next base (cellOf v ∷ below (baseOf mine) cells))) in
+      step-at x f (cellOf v ∷ []) s fits′
+      ∙ ap
+      (λ r. onward s (bind r (λ g. bind (link (cellAt cells (baseOf mine + 2))) (λ next. bind (holds (frameOf mine) 1 cells) (λ _. to next (g .base))))))
+      (caller-there b sk h w fits slots back (cellOf v ∷ []) fits′)
+      ∙ ap
+      (λ r. onward s (bind r (λ next. bind (holds (frameOf mine) 1 cells) (λ _. to next (baseOf (b ∷ sk))))))
+      (back-there b sk h w fits slots back (cellOf v ∷ []) fits′)
+      ∙ ap (λ r. onward s (bind r (λ _. to back (baseOf (b ∷ sk))))) (holds-there 1 (cellOf v ∷ []) fits′ (omega arith))
+      ∙ ap (λ r. onward s (bind r (λ v. Ok (stack back (baseOf (b ∷ sk)) (cellOf v ∷ below (baseOf mine) cells))))) (value-cell v)
+      ∙ ap {B = Result (Went S) Halt} (λ l. Ok (next (stack back (baseOf (b ∷ sk)) (cellOf v ∷ l)) s)) (below-there b sk h w fits slots back (cellOf v ∷ []) fits′)
+
+-- where a called function's result arrives: with the caller, at the code after the call
+abbrev returned : ℕ → Skeleton → ℕ → List Cell → Env → Option Value → Env → Stack
+returned back sk h w env v e = valueAt back sk w v (take h env ++ tailOf e)
+
+module _ {S : Type 0} (x : Setting S) {D : Type 0} (b : Bone) (sk : Skeleton) (h : ℕ) (w : List Cell) {env : Env} (fits : Fits (b ∷ sk) env) (slots back : ℕ) where
+  -- a return, where there is a value just if the type is not void
+  given-comes : (k q : ℕ) (t : ValueType) → Fetches (x .program) k (instructions.Local (returning t)) q → (v : Option Value) (e : Env) (s : S) → Fits (callee slots back (b ∷ sk) h w env ∷ drop h (b ∷ sk)) e → Comes x D (Arrives (callee slots back (b ∷ sk) h w env ∷ drop h (b ∷ sk)) (returned back (b ∷ sk) h w env)) (given t v e s) s (valueAt k (callee slots back (b ∷ sk) h w env ∷ drop h (b ∷ sk)) [] v e)
+  given-comes k q Void f None e s fits′ = more-comes (return-step x b sk h w fits slots back s k q f e fits′) (done-comes None fits′)
+  given-comes k q Void f (Some v) e s fits′ = trouble-comes
+  given-comes k q Int f None e s fits′ = trouble-comes
+  given-comes k q Int f (Some v) e s fits′ = more-comes (return-value-step x b sk h w fits slots back s k q f v e fits′) (done-comes (Some v) fits′)
+  given-comes k q Truths f None e s fits′ = trouble-comes
+  given-comes k q Truths f (Some v) e s fits′ = more-comes (return-value-step x b sk h w fits slots back s k q f v e fits′) (done-comes (Some v) fits′)
+
+  -- the called function's frame goes from the chain, and the frames before it are put back
+  back-comes : {D′ : Type 0} {r : Eval S (Option Value)} {s : S} {t : Stack} → (D → D′) → Comes x D (Arrives (callee slots back (b ∷ sk) h w env ∷ drop h (b ∷ sk)) (returned back (b ∷ sk) h w env)) r s t → Comes x D′ (Arrives (b ∷ sk) (valueAt back (b ∷ sk) w)) (backUnder (take h env) (andThen r leaving)) s t
+  back-comes {D′} {r} {s} {t} deeper c = record { leads = go r (c .leads) }
+    where
+      go : (r : Eval S (Option Value)) → Leads x (After x D (Arrives (callee slots back (b ∷ sk) h w env ∷ drop h (b ∷ sk)) (returned back (b ∷ sk) h w env)) r) s t → Leads x (After x D′ (Arrives (b ∷ sk) (valueAt back (b ∷ sk) w)) (backUnder (take h env) (andThen r leaving))) s t
+      go (done v [] s′) l = here tt
+      go (done v (f ∷ d) s′) l = leads-on l (λ s t q. here (q .0, q .1, fits-back h d fits (fits-rest (q .2))))
+      go (stopped c p s′) l = l
+      go trouble l = here tt
+      go tooDeep l = leads-on l (λ s t q. here (deeper q))
+
+-- jumps past functions change nothing
+pub skip-comes : {S A : Type 0} {x : Setting S} {D : Type 0} {K : A → Env → S → S → Stack → Type 0} {r : Eval S A} {s : S} {b : Bone} {sk : Skeleton} {env : Env} (fs : Functions) (p : ℕ) (w : List Cell) → JumpsPast (x .program) p fs → Fits (b ∷ sk) env → Comes x D K r s (conf (endFunctions p fs) (b ∷ sk) w env) → Comes x D K r s (conf p (b ∷ sk) w env)
+skip-comes noFunctions p w c fits k = k
+skip-comes {x} {s} (more f fs) p w c fits k = more-comes (step-at x (c .0) w s fits) (skip-comes fs (endFunction p f) w (c .1) fits k)
+
+module _ {S : Type 0} (x : Setting S) (bodies : BodiesIn (x .program)) where
+  abbrev callsOf : ℕ → ℕ → List Value → Env → S → Eval S (Option Value)
+  callsOf n = callsTo (x .ops) (x .program .functions) n
+
+  -- one function, called with as many arguments as it has parameters
+  function-comes : (n : ℕ) → CallsCome x (callsOf n) n → (k q a h : ℕ) (p : ℕ) (t : ValueType) (m o : ℕ) (inner : Functions) (body : Actions) (end : Ending) → Fetches (x .program) k (instructions.Local (Call (record { start = a + 1; parameters = m; others = o }))) q → BodyIn (x .program) (a + 1) (function p t m o inner body end) → (vs : List Value) → length vs ≡ m → (b : Bone) (sk : Skeleton) (w : List Cell) (env : Env) (s : S) → Fits (b ∷ sk) env → Comes x (Deep x (b ∷ sk) (suc n)) (Arrives (b ∷ sk) (valueAt (k + 1) (b ∷ sk) w)) (backUnder (take h env) (andThen (evalBody (x .ops) (callsOf n) t body end (frameFor vs o ∷ drop h env) s) leaving)) s (conf k (b ∷ sk) (pushAll vs (opened (b ∷ sk) h w)) env)
+  function-comes n callsCome k q a h p t m o inner body end f c vs e b sk w env s fits =
+      let bone = callee (m + o) (k + 1) (b ∷ sk) h w env in
+      let chain = drop h (b ∷ sk) in
+      let size : length (frameFor vs o) ≡ m + o =
+        omega (arith, e, length-append (map Some vs) (replicate o None), length-map vs (λ (v : Value). Some v), length-replicate {A = Option Value} o None) in
+      let fits′ : Fits (bone ∷ chain) (frameFor vs o ∷ drop h env) = one size (fits-drop h fits) in
+      let base : baseOf (bone ∷ chain) ≡ length (w ++ flat (b ∷ sk) env) =
+        base-is b sk h w fits (m + o) (k + 1) (drop h env) (fits-drop h fits) ∙ ap (λ e. length (w ++ flat (b ∷ sk) e)) (take-append-drop h env) in
+      let higher : baseOf (b ∷ sk) + 4 ≤ baseOf (bone ∷ chain) = omega (arith, base, length-append w (flat (b ∷ sk) env), length-flat fits) in
+      let start = endFunctions (a + 1) inner in
+      let middle = endActions start body in
+      let last = endEnding middle end in
+      room-comes o (conf (a + 1) (bone ∷ chain) [] (frameFor vs o ∷ drop h env)) (call-step x b sk h w fits s k q a m o vs e f)
+      (λ _. back-comes x b sk h w fits (m + o) (k + 1) (λ deep. omega (arith, deep, higher))
+      (skip-comes inner (a + 1) [] (c .0) fits′
+      (then-comes (actions-come x (callsOf n) n callsCome bone chain body start (c .1) [] (frameFor vs o ∷ drop h env) s fits′)
+      (λ _ env′ s′ fits′. then-comes (ending-comes x (callsOf n) n callsCome bone chain end middle (c .2) [] env′ s′ fits′)
+      (λ v env′ s′ fits′. given-comes x b sk h w fits (m + o) (k + 1) last p t (c .3) v env′ s′ fits′)))))
