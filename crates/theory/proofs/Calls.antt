@@ -339,3 +339,20 @@ module _ {S : Type 0} (x : Setting S) (bodies : BodiesIn (x .program)) where
       (then-comes (actions-come x (callsOf n) n callsCome bone chain body start (c .1) [] (frameFor vs o ∷ drop h env) s fits′)
       (λ _ env′ s′ fits′. then-comes (ending-comes x (callsOf n) n callsCome bone chain end middle (c .2) [] env′ s′ fits′)
       (λ v env′ s′ fits′. given-comes x b sk h w fits (m + o) (k + 1) last p t (c .3) v env′ s′ fits′)))))
+
+  -- a call of a function, if there is one with that number
+  invoked-comes : (n : ℕ) → CallsCome x (callsOf n) n → (k f q h : ℕ) → CallIn (x .program) k f q → (vs : List Value) (b : Bone) (sk : Skeleton) (w : List Cell) (env : Env) (s : S) → Fits (b ∷ sk) env → (g : Option Function) → numberedFunction (x .program .functions) f ≡ g → Comes x (Deep x (b ∷ sk) (suc n)) (Arrives (b ∷ sk) (valueAt (k + 1) (b ∷ sk) w)) (backUnder (take h env) (invoked (x .ops) (callsOf n) g vs (drop h env) s)) s (conf k (b ∷ sk) (pushAll vs (opened (b ∷ sk) h w)) env)
+  invoked-comes n callsCome k f q h c vs b sk w env s fits None e = trouble-comes
+  invoked-comes n callsCome k f q h c vs b sk w env s fits (Some (function p t m o inner body end)) e = go (eqb (length vs) m) refl
+    where
+      go : (y : Bool) → eqb (length vs) m ≡ y → Comes x (Deep x (b ∷ sk) (suc n)) (Arrives (b ∷ sk) (valueAt (k + 1) (b ∷ sk) w)) (backUnder (take h env) (cond y (andThen (evalBody (x .ops) (callsOf n) t body end (frameFor vs o ∷ drop h env) s) leaving) trouble)) s (conf k (b ∷ sk) (pushAll vs (opened (b ∷ sk) h w)) env)
+      go true same =
+          function-comes n callsCome k q (getD (x .program .entries) f 0) h p t m o inner body end
+          (c (function p t m o inner body end) e) (bodies f (function p t m o inner body end) e) vs (eqb-true (length vs) m same) b sk w env s fits
+      go false same = trouble-comes
+
+  -- calls come to what calling comes to, at every depth
+  pub calls-come : (n : ℕ) → CallsCome x (callsOf n) n
+  calls-come zero k f q h c vs b sk w env s fits l low = deep-comes (omega arith)
+  calls-come (suc n) k f q h c vs b sk w env s fits l low =
+      invoked-comes n (calls-come n) k f q h c vs b sk w env s fits (numberedFunction (x .program .functions) f) refl
