@@ -53,7 +53,7 @@ unset-shift : (n : ℕ) (rest : List Cell) → replicate n Unset ++ Unset ∷ re
 unset-shift zero rest = refl
 unset-shift (suc n) rest = ap {B = List Cell} (λ l. Unset ∷ l) (unset-shift n rest)
 
-stacked-unset : (n : ℕ) (rest : List Cell) → stacked (replicate n None) rest ≡ replicate n Unset ++ rest
+pub stacked-unset : (n : ℕ) (rest : List Cell) → stacked (replicate n None) rest ≡ replicate n Unset ++ rest
 stacked-unset zero rest = refl
 stacked-unset (suc n) rest = stacked-unset n (Unset ∷ rest) ∙ unset-shift n rest
 

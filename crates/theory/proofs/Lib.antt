@@ -7,3 +7,5 @@ pub mod Leads
 pub mod Steps
 pub mod Terms
 pub mod Calls
+pub mod Whole
+pub mod Runs
