@@ -1,0 +1,11 @@
+pub mod Placed
+pub mod Standing
+pub mod Functions
+pub mod Depth
+pub mod Represent
+pub mod Leads
+pub mod Steps
+pub mod Terms
+pub mod Calls
+pub mod Whole
+pub mod Runs
