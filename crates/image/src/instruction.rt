@@ -9,6 +9,13 @@ pub struct Header {
     pub result: ValueType,
 }
 
+// An image that was taken: its header, and the number of the program's slots.
+#[derive(Clone, Copy)]
+pub struct Accepted {
+    pub header: Header,
+    pub others: u32,
+}
+
 // A slot of the frame that many hops off.
 #[derive(Clone, Copy)]
 pub struct Slot {

@@ -29,16 +29,19 @@ impl Machine {
     {
         for steps in 0..allowance {
             match self.step(words, header, cells, host) {
-                Err(halt) => return Ran {
-                    steps,
-                    outcome: Outcome::Halted(halt, self.counter),
-                },
+                Err(halt) => {
+                    let outcome = Outcome::Halted(halt, self.counter);
+                    return Ran { steps, outcome };
+                }
                 Ok(flow) => match flow {
                     Flow::Next => {}
-                    Flow::Ended(value) => return Ran {
-                        steps: steps + 1,
-                        outcome: Outcome::Finished(value),
-                    },
+                    Flow::Ended(value) => {
+                        let outcome = Outcome::Finished(value);
+                        return Ran {
+                            steps: steps + 1,
+                            outcome,
+                        };
+                    }
                 },
             }
         }

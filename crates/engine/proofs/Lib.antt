@@ -1,0 +1,3 @@
+mod Replies
+mod Written
+mod Plays

@@ -1,0 +1,4 @@
+pub mod Lawful
+pub mod Checked
+pub mod Says
+pub mod Means

@@ -1,0 +1,3 @@
+// Tests of the node table, in a crate of their own so that the table is not proved twice.
+#[cfg(test)]
+mod tests;
