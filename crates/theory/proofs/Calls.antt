@@ -64,11 +64,10 @@ Reads read k (v ∷ vs) = (read k ≡ cellOf v) × Reads read (k + 1) vs
 
 reads-stacked : (cells : List Cell) (vs : List Value) (rest : List Cell) (k : ℕ) → cells ≡ stacked (map Some vs) rest → k ≡ length rest → Reads (cellAt cells) k vs
 reads-stacked cells [] rest k is e = tt
-reads-stacked cells (v ∷ vs) rest k is e =
-    (
-      ap (λ l. cellAt l k) is ∙ at-stacked (map Some vs) (cellOf v ∷ rest) k (omega arith) ∙ at-here (cellOf v) rest k e,
-      reads-stacked cells vs (cellOf v ∷ rest) (k + 1) is (omega arith),
-    )
+reads-stacked cells (v ∷ vs) rest k is e = (
+  ap (λ l. cellAt l k) is ∙ at-stacked (map Some vs) (cellOf v ∷ rest) k (omega arith) ∙ at-here (cellOf v) rest k e,
+  reads-stacked cells vs (cellOf v ∷ rest) (k + 1) is (omega arith),
+)
 
 present-cell : (v : Value) → present (cellOf v) ≡ Ok tt
 present-cell (vals.Number z) = refl
@@ -78,23 +77,21 @@ present-cell (vals.Truth b) = refl
 all-present : (read : ℕ → Cell) (vs : List Value) (k : ℕ) → Reads read k vs → (r : ℕ) × (times (length vs) (presentAt read) k ≡ Ok r)
 all-present read [] k h = (k, refl)
 all-present read (v ∷ vs) k h =
-    let ih = all-present read vs (k + 1) (h .1) in
-    (
+    let ih = all-present read vs (k + 1) (h .1) in (
       ih .0,
       ap (λ c. bind (bind (present c) (λ _. Ok (k + 1))) (times (length vs) (presentAt read))) (h .0)
-      ∙ ap (λ r. bind (bind r (λ _. Ok (k + 1))) (times (length vs) (presentAt read))) (present-cell v)
-      ∙ ih .1,
+          ∙ ap (λ r. bind (bind r (λ _. Ok (k + 1))) (times (length vs) (presentAt read))) (present-cell v)
+          ∙ ih .1,
     )
 
 all-values : (read : ℕ → Cell) (vs : List Value) (k : ℕ) → Reads read k vs → (r : ℕ) × (times (length vs) (valueIn read) k ≡ Ok r)
 all-values read [] k h = (k, refl)
 all-values read (v ∷ vs) k h =
-    let ih = all-values read vs (k + 1) (h .1) in
-    (
+    let ih = all-values read vs (k + 1) (h .1) in (
       ih .0,
       ap (λ c. bind (bind (value c) (λ _. Ok (k + 1))) (times (length vs) (valueIn read))) (h .0)
-      ∙ ap (λ r. bind (bind r (λ _. Ok (k + 1))) (times (length vs) (valueIn read))) (value-cell v)
-      ∙ ih .1,
+          ∙ ap (λ r. bind (bind r (λ _. Ok (k + 1))) (times (length vs) (valueIn read))) (value-cell v)
+          ∙ ih .1,
     )
 
 taken : (read : ℕ → Cell) (vs : List Value) (k : ℕ) → Reads read k vs → (r : ℕ) × (arguments read k (length vs) ≡ Ok r)
@@ -174,15 +171,15 @@ module _ (b : Bone) (sk : Skeleton) (h : ℕ) (w : List Cell) {env : Env} (fits 
       let rest = w ++ flat (b ∷ sk) env in
       let access = baseOf (drop h (b ∷ sk)) in
       let base : length rest ≡ baseOf (callee (m + o) (k + 1) (b ∷ sk) h w env ∷ drop h (b ∷ sk)) =
-        sym (base-is (m + o) (k + 1) (drop h env) (fits-drop h fits) ∙ ap (λ e. length (w ++ flat (b ∷ sk) e)) (take-append-drop h env)) in
+      sym (base-is (m + o) (k + 1) (drop h env) (fits-drop h fits) ∙ ap (λ e. length (w ++ flat (b ∷ sk) e)) (take-append-drop h env)) in
       let L = λ (l : List Cell). Link (m + o) ∷ Link (k + 1) ∷ Link (baseOf (b ∷ sk)) ∷ Link access ∷ l in
       let under = (w ++ front h (b ∷ sk) env) ++ flat (drop h (b ∷ sk)) (drop h env) in
       let new : replicate o Unset ++ setAt (setAt cells (length rest + 2) (Link (k + 1))) (length rest + 3) (Link (m + o)) ≡ stacked (frameFor vs o) (L under) =
-        ap (λ l. replicate o Unset ++ setAt (setAt l (length rest + 2) (Link (k + 1))) (length rest + 3) (Link (m + o))) is
-        ∙ ap (λ l. replicate o Unset ++ l) (four-filled (map Some vs) 0 0 (baseOf (b ∷ sk)) access rest (length rest) refl (k + 1) (m + o))
-        ∙ ap (λ l. replicate o Unset ++ stacked (map Some vs) (L l)) (sym under-now)
-        ∙ sym (stacked-unset o (stacked (map Some vs) (L under)))
-        ∙ sym (stacked-both (map Some vs) (replicate o None) (L under)) in
+      ap (λ l. replicate o Unset ++ setAt (setAt l (length rest + 2) (Link (k + 1))) (length rest + 3) (Link (m + o))) is
+      ∙ ap (λ l. replicate o Unset ++ l) (four-filled (map Some vs) 0 0 (baseOf (b ∷ sk)) access rest (length rest) refl (k + 1) (m + o))
+      ∙ ap (λ l. replicate o Unset ++ stacked (map Some vs) (L l)) (sym under-now)
+      ∙ sym (stacked-unset o (stacked (map Some vs) (L under)))
+      ∙ sym (stacked-both (map Some vs) (replicate o None) (L under)) in
       λ i. stack start (base i) (new i)
 
 module _ {S : Type 0} (x : Setting S) (b : Bone) (sk : Skeleton) (h : ℕ) (w : List Cell) {env : Env} (fits : Fits (b ∷ sk) env) (s : S) where
@@ -195,7 +192,7 @@ module _ {S : Type 0} (x : Setting S) (b : Bone) (sk : Skeleton) (h : ℕ) (w : 
       let L = Link 0 ∷ Link 0 ∷ Link (baseOf (b ∷ sk)) ∷ Link (baseOf (drop h (b ∷ sk))) ∷ rest in
       let is : t .cells ≡ stacked (map Some vs) L = pushed-stacked vs (opened (b ∷ sk) h w) (flat (b ∷ sk) env) in
       let size : length (t .cells) ≡ length rest + 4 + m =
-        omega (arith, n, ap length is, length-stacked (map Some vs) L, length-map vs (λ (v : Value). Some v)) in
+      omega (arith, n, ap length is, length-stacked (map Some vs) L, length-map vs (λ (v : Value). Some v)) in
       let E : Entry = record { start = a + 1; parameters = m; others = o } in
       let read = cellAt (t .cells) in
       let to = λ (base : ℕ). room (x .limit) o (t .cells) (Ok (stack (a + 1) base (framed E base t))) in
@@ -205,7 +202,7 @@ module _ {S : Type 0} (x : Setting S) (b : Bone) (sk : Skeleton) (h : ℕ) (w : 
       let base₁ : length (t .cells) - (m + 4) ≡ length rest = omega arith in
       let base₂ : length (t .cells) - m ≡ length rest + 4 = omega arith in
       let four : fourLinks read (length rest) ≡ Ok 0 =
-        ap (λ l. fourLinks (cellAt l) (length rest)) is ∙ four-read (map Some vs) 0 0 (baseOf (b ∷ sk)) (baseOf (drop h (b ∷ sk))) rest (length rest) refl in
+      ap (λ l. fourLinks (cellAt l) (length rest)) is ∙ four-read (map Some vs) 0 0 (baseOf (b ∷ sk)) (baseOf (drop h (b ∷ sk))) rest (length rest) refl in
       step-at x f W s fits
       ∙ ap
       (λ r. onward s (bind r (λ _. bind (fourLinks read (length (t .cells) - (m + 4))) (λ _. bind (arguments read (length (t .cells) - m) m) (λ _. to (length (t .cells) - (m + 4)))))))
@@ -244,7 +241,7 @@ module _ (b : Bone) (sk : Skeleton) (h : ℕ) (w : List Cell) {env : Env} (fits 
   caller-there =
       ap (λ c. bind (link c) (λ base. frame (cellAt cells) base (baseOf mine))) (caller-link cells p refl fits′)
       ∙ frame-there cells (above ++ w) (cells-are ∙ sym (append-assoc above w (flat (b ∷ sk) (take h env ++ d)))) caller-fits (baseOf mine)
-        (omega (arith, base-there, length-append w (flat (b ∷ sk) (take h env ++ d)), length-flat caller-fits))
+      (omega (arith, base-there, length-append w (flat (b ∷ sk) (take h env ++ d)), length-flat caller-fits))
 
   back-there : link (cellAt cells (baseOf mine + 2)) ≡ Ok back
   back-there = ap link (back-link cells p refl fits′)
@@ -325,10 +322,10 @@ module _ {S : Type 0} (x : Setting S) (bodies : BodiesIn (x .program)) where
       let bone = callee (m + o) (k + 1) (b ∷ sk) h w env in
       let chain = drop h (b ∷ sk) in
       let size : length (frameFor vs o) ≡ m + o =
-        omega (arith, e, length-append (map Some vs) (replicate o None), length-map vs (λ (v : Value). Some v), length-replicate {A = Option Value} o None) in
+      omega (arith, e, length-append (map Some vs) (replicate o None), length-map vs (λ (v : Value). Some v), length-replicate {A = Option Value} o None) in
       let fits′ : Fits (bone ∷ chain) (frameFor vs o ∷ drop h env) = one size (fits-drop h fits) in
       let base : baseOf (bone ∷ chain) ≡ length (w ++ flat (b ∷ sk) env) =
-        base-is b sk h w fits (m + o) (k + 1) (drop h env) (fits-drop h fits) ∙ ap (λ e. length (w ++ flat (b ∷ sk) e)) (take-append-drop h env) in
+      base-is b sk h w fits (m + o) (k + 1) (drop h env) (fits-drop h fits) ∙ ap (λ e. length (w ++ flat (b ∷ sk) e)) (take-append-drop h env) in
       let higher : baseOf (b ∷ sk) + 4 ≤ baseOf (bone ∷ chain) = omega (arith, base, length-append w (flat (b ∷ sk) env), length-flat fits) in
       let start = endFunctions (a + 1) inner in
       let middle = endActions start body in

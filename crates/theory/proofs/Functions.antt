@@ -83,8 +83,7 @@ five : {code : List Laid} {p k l m n : ℕ} {xs ys zs us vs : List Laid} → Spa
 five {xs} {ys} {zs} {us} {vs} a b c d h =
     let h4 = lies-left (((xs ++ ys) ++ zs) ++ us) vs h in
     let h3 = lies-left ((xs ++ ys) ++ zs) us h4 in
-    let h2 = lies-left (xs ++ ys) zs h3 in
-    (
+    let h2 = lies-left (xs ++ ys) zs h3 in (
       lies-left xs ys h2,
       lies-right xs ys a h2,
       lies-right (xs ++ ys) zs (span-both a b) h3,
@@ -110,11 +109,10 @@ parts c p q t n o inner body end h =
 module _ (c : Program) (P : ℕ → Function → Type 0) (make : (p : ℕ) (g : Function) → LawfulFunction g → Lies (c .code) p (emitFunction (c .entries) p g) → P (p + 1) g) where
   mutual
     each-function : (p : ℕ) (f : Function) → LawfulFunction f → Lies (c .code) p (emitFunction (c .entries) p f) → Each P (entriesOf p f) (withInner f)
-    each-function p (function q t n o inner body end) l h =
-        (
-          make p (function q t n o inner body end) l h,
-          each-functions (p + 2) inner (l .1) (parts c p q t n o inner body end h .functions),
-        )
+    each-function p (function q t n o inner body end) l h = (
+      make p (function q t n o inner body end) l h,
+      each-functions (p + 2) inner (l .1) (parts c p q t n o inner body end h .functions),
+    )
 
     each-functions : (p : ℕ) (fs : Functions) → LawfulFunctions fs → Lies (c .code) p (emitFunctions (c .entries) p fs) → Each P (entries p fs) (all fs)
     each-functions p noFunctions l h = tt
@@ -134,11 +132,10 @@ module _ (c : Program) where
 
   pub jumps-past : (p : ℕ) (fs : Functions) → Lies (c .code) p (emitFunctions (c .entries) p fs) → JumpsPast c p fs
   jumps-past p noFunctions h = tt
-  jumps-past p (more f fs) h =
-      (
-        jump-past p f (lies-left (emitFunction (c .entries) p f) (emitFunctions (c .entries) (endFunction p f) fs) h),
-        jumps-past (endFunction p f) fs (lies-right (emitFunction (c .entries) p f) (emitFunctions (c .entries) (endFunction p f) fs) (span-function (c .entries) p f) h),
-      )
+  jumps-past p (more f fs) h = (
+    jump-past p f (lies-left (emitFunction (c .entries) p f) (emitFunctions (c .entries) (endFunction p f) fs) h),
+    jumps-past (endFunction p f) fs (lies-right (emitFunction (c .entries) p f) (emitFunctions (c .entries) (endFunction p f) fs) (span-function (c .entries) p f) h),
+  )
 
   module _ (stand : EntriesStand c) where
     body-in : (p : ℕ) (g : Function) → LawfulFunction g → Lies (c .code) p (emitFunction (c .entries) p g) → BodyIn c (p + 1 + 1) g
@@ -194,7 +191,7 @@ rules-in r l =
     let h2 = lies-left (first ∷ [] ++ functions) actions h3 in
     let lie = lies-right (first ∷ []) functions s1 h2 in
     let stand : EntriesStand c =
-      each-at (EntryStands c) (c .entries) (c .functions) (each-functions c (EntryStands c) (entry-stands c) 1 (r .functions) (l .functions) lie) in
+    each-at (EntryStands c) (c .entries) (c .functions) (each-functions c (EntryStands c) (entry-stands c) 1 (r .functions) (l .functions) lie) in
     let In : ℕ → Function → Type 0 = λ a g. BodyIn c (a + 1) g in
     record {
       bodies = each-at In (c .entries) (c .functions) (each-functions c In (body-in c stand) 1 (r .functions) (l .functions) lie);

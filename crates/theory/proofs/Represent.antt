@@ -138,8 +138,7 @@ slot-set [] rest k v f′ e = let z : _≡_ {A = ℕ} 0 1 = cc in absurd (omega 
 slot-set (u ∷ us) rest zero v f′ e =
     let same : Some v ∷ us ≡ f′ = cc in
     let here : length rest + 0 ≡ length rest = omega arith in
-    let l : length rest + 0 < length (slotCell u ∷ rest) = omega arith in
-    (
+    let l : length rest + 0 < length (slotCell u ∷ rest) = omega arith in (
       omega arith,
       sym (ap length same),
       set-stacked us (slotCell u ∷ rest) (length rest + 0) (cellOf v) l ∙ ap (stacked us) (set-here (slotCell u) rest (length rest + 0) (cellOf v) here) ∙ ap (λ g. stacked g rest) same,
@@ -151,8 +150,7 @@ slot-set (u ∷ us) rest (suc k) v f′ e = go (setSlot us k v) refl e (λ g a. 
     go (Some g) a b rec =
         let same : u ∷ g ≡ f′ = cc in
         let ih = rec g a in
-        let n : length rest + suc k ≡ length (slotCell u ∷ rest) + k = omega arith in
-        (
+        let n : length rest + suc k ≡ length (slotCell u ∷ rest) + k = omega arith in (
           omega (arith, ih .0),
           sym (ap length same) ∙ ap suc (ih .1),
           ap (λ j. setAt (stacked us (slotCell u ∷ rest)) j (cellOf v)) n ∙ ih .2 ∙ ap (λ g. stacked g rest) same,
@@ -285,15 +283,13 @@ variable-there zero k v cells u is (one {b = b} {sk = sk} {f = f} {env = env} n 
     let found = slot-cell f L k v e in
     let R : length (b .under ++ flat sk env) ≡ baseOf (b ∷ sk) = omega (arith, length-append (b .under) (flat sk env), length-flat fits) in
     let at : baseOf (b ∷ sk) + 4 + k ≡ length L + k = omega arith in
-    let low : length L + k < length (stacked f L) = omega (arith, length-stacked f L, found .0) in
-    (
+    let low : length L + k < length (stacked f L) = omega (arith, length-stacked f L, found .0) in (
       cond-true _ _ _ (lt-ltb (baseOf (b ∷ sk) + 4 + k) (height (b ∷ sk)) (omega (arith, found .0))),
       ap (cellAt cells) at ∙ ap (λ x. cellAt x (length L + k)) is ∙ at-below u (stacked f L) (length L + k) low ∙ found .1,
     )
 variable-there (suc h) k v cells u is (one {b = b} {sk = sk} {f = f} {env = env} n fits) e =
     let ih = variable-there h k v cells (u ++ over b sk f) (deeper u b sk f env is) fits e in
-    let some : 0 < length env = has env h e in
-    (
+    let some : 0 < length env = has env h e in (
       ap (λ r. bind (bind r (times h (hop (cellAt cells)))) (λ g. slotIn g k)) (hop-there cells u is (one n fits) some) ∙ ih .0,
       ih .1,
     )
@@ -328,14 +324,14 @@ assigns-deeper h k v env′ (one {b = b} {sk = sk} {f = f} {env = env} n fits) s
     let low : slotPlace sk h k < length (flat sk env) = omega (arith, ih .low, length-flat fits) in
     record {
       finds = λ cells u is.
-        ap (λ r. bind (bind r (times h (hop (cellAt cells)))) (λ g. slotIn g k)) (hop-there cells u is (one n fits) some)
-        ∙ ih .finds cells (u ++ over b sk f) (deeper u b sk f env is);
+          ap (λ r. bind (bind r (times h (hop (cellAt cells)))) (λ g. slotIn g k)) (hop-there cells u is (one n fits) some)
+          ∙ ih .finds cells (u ++ over b sk f) (deeper u b sk f env is);
       low = omega (arith, ih .low);
       sets =
-        ap (λ x. setAt x (slotPlace sk h k) (cellOf v)) (flat-over b sk f env)
-        ∙ set-below (over b sk f) (flat sk env) (slotPlace sk h k) (cellOf v) low
-        ∙ ap (λ x. over b sk f ++ x) (ih .sets)
-        ∙ sym (flat-over b sk f env′);
+          ap (λ x. setAt x (slotPlace sk h k) (cellOf v)) (flat-over b sk f env)
+          ∙ set-below (over b sk f) (flat sk env) (slotPlace sk h k) (cellOf v) low
+          ∙ ap (λ x. over b sk f ++ x) (ih .sets)
+          ∙ sym (flat-over b sk f env′);
       fits = one n (ih .fits);
     }
 

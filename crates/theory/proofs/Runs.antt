@@ -41,8 +41,7 @@ runs-to x P (here {s = s} {t = t} q) k = let r = k s t q in (r .0, inr (r .1))
 runs-to x P (full {s = s} {t = t} e) k =
     (1, inl (t .counter, ap (λ r. thenRun r t s (runIn x 0) .outcome) e))
 runs-to x P (more {s = s} {t = t} e l) k =
-    let ih = runs-to x P l k in
-    (
+    let ih = runs-to x P l k in (
       suc (ih .0),
       subst (λ r. OutOfRoom (thenRun r t s (runIn x (ih .0)) .outcome) ⊎ Known P (thenRun r t s (runIn x (ih .0)))) (sym e) (ih .1),
     )
@@ -103,22 +102,20 @@ out-ended h e =
 
 -- where evaluation is not in trouble and not too deep, the run has ended as it does
 settled : {S : Type 0} (r : Rules) (D : Type 0) (e : Eval S (Option Value)) (o : Outcome) (s : S) → (e ≡ trouble → ⊥) → (D → ⊥) → EndsOr r D e o s → EndsAs r e o s × Ended o
-settled r D (done v env s′) o s safe shallow h =
-    (
-      h,
-      λ e.
-        let q = h .0 in
-        let z : _≡_ {A = ℕ} 0 1 = cc in
-        omega arith,
-    )
-settled r D (stopped c q s′) o s safe shallow h =
-    (
-      h,
-      λ e.
-        let p = h .0 .1 in
-        let z : _≡_ {A = ℕ} 0 1 = cc in
-        omega arith,
-    )
+settled r D (done v env s′) o s safe shallow h = (
+  h,
+  λ e.
+      let q = h .0 in
+      let z : _≡_ {A = ℕ} 0 1 = cc in
+      omega arith,
+)
+settled r D (stopped c q s′) o s safe shallow h = (
+  h,
+  λ e.
+      let p = h .0 .1 in
+      let z : _≡_ {A = ℕ} 0 1 = cc in
+      omega arith,
+)
 settled r D trouble o s safe shallow h = absurd (safe refl)
 settled r D tooDeep o s safe shallow h = absurd (shallow h)
 
@@ -128,14 +125,13 @@ module _ {S : Type 0} (ops : Serves S) (r : Rules) (l : Lawful r) (cells depth :
   some-ends safe =
       let h = rules-run ops r l cells depth s in
       let o = runOf ops r cells (h .0) s .outcome in
-      let m = runOf ops r cells (h .0) s .host in
-      (
+      let m = runOf ops r cells (h .0) s .host in (
         h .0,
         elim (h .1) [
-          inl out ↦ (out-ended out, inl out)
-        | inr known ↦
-          let q = settled r (4 * depth < cells) (evaluated ops r depth s) o m safe (λ d. omega arith) known in
-          (q .1, inr (q .0))
+          | inl out ↦ (out-ended out, inl out)
+          | inr known ↦
+              let q = settled r (4 * depth < cells) (evaluated ops r depth s) o m safe (λ d. omega arith) known in
+              (q .1, inr (q .0))
         ],
       )
 

@@ -229,8 +229,7 @@ module _ (c : Program) (stand : EntriesStand c) where
     term-in p (negation q e) l h =
         (term-in p e l (lies-left _ _ h), fetches (lies-one (lies-right _ _ (span-term (c .entries) p e) h)) refl)
     term-in p (operation q o a b) l h =
-        let first = lies-left _ _ h in
-        (
+        let first = lies-left _ _ h in (
           term-in p a (l .0) (lies-left _ _ first),
           term-in _ b (l .1) (lies-right _ _ (span-term (c .entries) p a) first),
           fetches (lies-one (lies-right _ _ (span-both (span-term (c .entries) p a) (span-term (c .entries) _ b)) h)) (operator-code c o),
@@ -248,8 +247,7 @@ module _ (c : Program) (stand : EntriesStand c) where
         let s4 = span-both s3 (span-term (c .entries) _ a) in
         let s5 = span-both s4 (span-one _ (laid 18 (endTerm (endActions (endTerm (endActions (endTerm p e + 1) s) a + 1) t) b) q)) in
         let s6 = span-both s5 (span-actions (c .entries) _ t) in
-        let s7 = span-both s6 (span-term (c .entries) _ b) in
-        (
+        let s7 = span-both s6 (span-term (c .entries) _ b) in (
           term-in p e (l .0) h1,
           fetches (lies-one (lies-right _ _ s1 h2)) (target-code c _ _ (lies-end s5 h5)),
           actions-in _ s (l .1) (lies-right _ _ s2 h3),
@@ -259,8 +257,7 @@ module _ (c : Program) (stand : EntriesStand c) where
           term-in _ b (l .4) (lies-right _ _ s6 h),
         )
     term-in p (call q f n es) l h =
-        let first = lies-left _ _ h in
-        (
+        let first = lies-left _ _ h in (
           fetches (lies-one (lies-left _ _ first)) refl,
           terms-in _ es l (lies-right _ _ (span-one p (laid 20 n q)) first),
           λ g e. fetches (lies-one (lies-right _ _ (span-both (span-one p (laid 20 n q)) (span-terms (c .entries) _ es)) h)) (call-code c _ g (stand f g e)),
@@ -270,8 +267,7 @@ module _ (c : Program) (stand : EntriesStand c) where
     term-in p (flag q e) l h =
         (term-in p e l (lies-left _ _ h), fetches (lies-one (lies-right _ _ (span-term (c .entries) p e) h)) refl)
     term-in p (post q a b) l h =
-        let first = lies-left _ _ h in
-        (
+        let first = lies-left _ _ h in (
           term-in p a (l .0) (lies-left _ _ first),
           term-in _ b (l .1) (lies-right _ _ (span-term (c .entries) p a) first),
           fetches (lies-one (lies-right _ _ (span-both (span-term (c .entries) p a) (span-term (c .entries) _ b)) h)) refl,
@@ -283,11 +279,10 @@ module _ (c : Program) (stand : EntriesStand c) where
         (term-in p e (l .0) (lies-left _ _ h), terms-in _ es (l .1) (lies-right _ _ (span-term (c .entries) p e) h))
 
     pub action-in : (p : ℕ) (a : Action) → LawfulAction a → Lies (c .code) p (emitAction (c .entries) p a) → ActionIn c p a
-    action-in p (assign q n k e) l h =
-        (
-          term-in p e (l .1) (lies-left _ _ h),
-          fetches (lies-one (lies-right _ _ (span-term (c .entries) p e) h)) (ap {B = Result Instruction Halt} (λ x. Ok (instructions.Local (Store x))) (slot-is n k (l .0))),
-        )
+    action-in p (assign q n k e) l h = (
+      term-in p e (l .1) (lies-left _ _ h),
+      fetches (lies-one (lies-right _ _ (span-term (c .entries) p e) h)) (ap {B = Result Instruction Halt} (λ x. Ok (instructions.Local (Store x))) (slot-is n k (l .0))),
+    )
     action-in p (perform e) l h = term-in p e l h
     action-in p (performAndDrop q e) l h =
         (term-in p e l (lies-left _ _ h), fetches (lies-one (lies-right _ _ (span-term (c .entries) p e) h)) refl)
@@ -295,8 +290,7 @@ module _ (c : Program) (stand : EntriesStand c) where
         let h2 = lies-left _ _ h in
         let s1 = span-term (c .entries) p e in
         let s2 = span-both s1 (span-one _ (laid 19 (endActions (endTerm p e + 1) s) q)) in
-        let s3 = span-both s2 (span-actions (c .entries) _ s) in
-        (
+        let s3 = span-both s2 (span-actions (c .entries) _ s) in (
           term-in p e (l .0) (lies-left _ _ h2),
           fetches (lies-one (lies-right _ _ s1 h2)) (target-code c _ _ (lies-end s3 h)),
           actions-in _ s (l .1) (lies-right _ _ s2 h),
@@ -309,8 +303,7 @@ module _ (c : Program) (stand : EntriesStand c) where
         let s2 = span-both s1 (span-one _ (laid 19 (endActions (endTerm p e + 1) s + 1) q)) in
         let s3 = span-both s2 (span-actions (c .entries) _ s) in
         let s4 = span-both s3 (span-one _ (laid 18 (endActions (endActions (endTerm p e + 1) s + 1) t) q)) in
-        let s5 = span-both s4 (span-actions (c .entries) _ t) in
-        (
+        let s5 = span-both s4 (span-actions (c .entries) _ t) in (
           term-in p e (l .0) (lies-left _ _ h2),
           fetches (lies-one (lies-right _ _ s1 h2)) (target-code c _ _ (lies-end s4 h4)),
           actions-in _ s (l .1) (lies-right _ _ s2 h3),

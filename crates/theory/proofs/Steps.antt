@@ -75,7 +75,7 @@ module _ {S : Type 0} (x : Setting S) {k q : ℕ} {b : Bone} {sk : Skeleton} {en
       let rest = w ++ flat (b ∷ sk) env in
       let low : slotPlace (b ∷ sk) h j < length (flat (b ∷ sk) env) = omega (arith, a .low, length-flat fits) in
       let is : setAt rest (slotPlace (b ∷ sk) h j) (cellOf v) ≡ w ++ flat (b ∷ sk) env′ =
-        set-below w (flat (b ∷ sk) env) (slotPlace (b ∷ sk) h j) (cellOf v) low ∙ ap (λ l. w ++ l) (a .sets) in
+      set-below w (flat (b ∷ sk) env) (slotPlace (b ∷ sk) h j) (cellOf v) low ∙ ap (λ l. w ++ l) (a .sets) in
       step-at x f (cellOf v ∷ w) s fits
       ∙ ap
       (λ r. onward s (bind r (λ _. bind (place (cellAt (t .cells)) (frameOf (b ∷ sk)) (record { hops = h; index = j })) (λ p. bind (value (cellOf v)) (λ v. onTo t (setAt rest p (cellOf v)))))))

@@ -129,10 +129,10 @@ module _ {S : Type 0} (x : Setting S) (calls : Calls S) (n : ℕ) (callsCome : C
             let l = ltb-true h (length env) e in
             room-comes 4 (conf (p + 1) (b ∷ sk) (opened (b ∷ sk) h w) env) (open-step x w s fits h (c .0) l)
             (λ roomy.
-              let low : baseOf (b ∷ sk) < x .limit = omega (arith, roomy, length-append w (flat (b ∷ sk) env), length-flat fits) in
-              then-comes (terms env s fits)
-              (λ vs env′ s′ fits′.
-                callsCome (endTerms (p + 1) es) f q h (c .2) vs b sk w env′ s′ fits′ (omega (arith, l, fits-length fits, fits-length fits′)) low))
+            let low : baseOf (b ∷ sk) < x .limit = omega (arith, roomy, length-append w (flat (b ∷ sk) env), length-flat fits) in
+            then-comes (terms env s fits)
+            (λ vs env′ s′ fits′.
+            callsCome (endTerms (p + 1) es) f q h (c .2) vs b sk w env′ s′ fits′ (omega (arith, l, fits-length fits, fits-length fits′)) low))
         go false e terms = trouble-comes
     term-comes (amount q e) p c w env s fits =
         wanted-comes (endTerm p e) w (term-comes e p (c .0) w env s fits) (λ v env s fits. amount-comes x w s fits (endTerm p e) q (c .1) v)

@@ -80,12 +80,12 @@ rules-come ops r l cells depth s =
     let first = replicate (r .others) None in
     let fits : Fits (root r ∷ []) (first ∷ []) = one (length-replicate {A = Option Value} (r .others) None) none in
     let begins : conf 1 (root r ∷ []) [] (first ∷ []) ≡ beginning (r .others) =
-      ap (stack 1 0) (stacked-unset (r .others) (Link (r .others) ∷ Link 0 ∷ Link 0 ∷ Link 0 ∷ [])) in
+    ap (stack 1 0) (stacked-unset (r .others) (Link (r .others) ∷ Link 0 ∷ Link 0 ∷ Link 0 ∷ [])) in
     let comes : Comes x (Deep x (root r ∷ []) depth) (Ends x) (evaluated ops r depth s) s (conf 1 (root r ∷ []) [] (first ∷ [])) =
-      skip-comes (r .functions) 1 [] (c .past) fits
-      (then-comes (actions-come x calls depth come (root r) [] (r .actions) start (c .actions) [] (first ∷ []) s fits)
-      (λ _ env s fits. then-comes (ending-comes x calls depth come (root r) [] (r .ending) middle (c .ending) [] env s fits)
-      (λ v env s fits. typed-comes x last (r .place) (r .result) refl (c .last) v env s fits))) in
+    skip-comes (r .functions) 1 [] (c .past) fits
+    (then-comes (actions-come x calls depth come (root r) [] (r .actions) start (c .actions) [] (first ∷ []) s fits)
+    (λ _ env s fits. then-comes (ending-comes x calls depth come (root r) [] (r .ending) middle (c .ending) [] env s fits)
+    (λ v env s fits. typed-comes x last (r .place) (r .result) refl (c .last) v env s fits))) in
     let shallow : 0 + 4 * depth ≡ 4 * depth = omega arith in
     subst (λ d. Comes x (d < cells) (Ends x) (evaluated ops r depth s) s (beginning (r .others))) shallow
     (subst (λ t. Comes x (Deep x (root r ∷ []) depth) (Ends x) (evaluated ops r depth s) s t) begins comes)
