@@ -2,8 +2,10 @@
 use crate::compared::Difference;
 use crate::compared::DifferenceDebug;
 use crate::compared::UNFIT;
+use crate::compared::same;
 use crate::compared::same_cells;
 use crate::compared::same_machine;
+use language::faults::Cause;
 use machine::cells::Cell;
 use machine::cells::Cell::Link;
 use machine::cells::Cell::Number;
@@ -88,6 +90,14 @@ fn all_begin() -> Result<(), Difference> {
     Ok(())
 }
 
+fn refuses(others: u32, cells: &mut [Cell], kept: &[Cell]) -> Result<(), Difference> {
+    let Err(refusal) = Machine::begin(others, cells) else {
+        return Err(UNFIT);
+    };
+    same("refusal", 32, Cause::Begin(refusal).number() as i128)?;
+    same_cells(kept, cells)
+}
+
 fn all_are_refused() -> Result<(), Difference> {
     for row in REFUSED {
         let (others, count) = *row;
@@ -95,10 +105,7 @@ fn all_are_refused() -> Result<(), Difference> {
             return Err(UNFIT);
         }
         let mut cells = BEFORE;
-        if Machine::begin(others, &mut cells[0..count]).is_ok() {
-            return Err(UNFIT);
-        }
-        same_cells(&BEFORE, &cells)?;
+        refuses(others, &mut cells[0..count], &BEFORE[0..count])?;
     }
     Ok(())
 }

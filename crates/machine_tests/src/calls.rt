@@ -3,19 +3,20 @@ use crate::compared::MismatchDebug;
 use crate::steps::FULL;
 use crate::steps::Going;
 use crate::steps::GoingGroup;
+use crate::steps::GoingRow;
 use crate::steps::Halting;
 use crate::steps::HaltingGroup;
+use crate::steps::HaltingRow;
 use crate::steps::Image;
 use crate::steps::Moving;
 use crate::steps::MovingGroup;
+use crate::steps::MovingRow;
 use crate::steps::PLAIN;
 use crate::steps::STEP;
 use crate::steps::Stuck;
 use crate::steps::StuckGroup;
-use crate::steps::go_on;
-use crate::steps::halt;
-use crate::steps::move_on;
-use crate::steps::stick;
+use crate::steps::StuckRow;
+use crate::steps::all;
 use language::values::ValueType;
 use machine::cells::Cell;
 use machine::cells::Cell::Link;
@@ -514,20 +515,20 @@ const STICKING: &[StuckGroup] = &[
 
 #[test]
 fn calls_are_opened() -> Result<(), Fail> {
-    move_on(OPENING)?;
-    go_on(OPENING_OVER_VALUES)?;
+    all(OPENING)?;
+    all(OPENING_OVER_VALUES)?;
     Ok(())
 }
 
 #[test]
 fn calls_enter() -> Result<(), Fail> {
-    move_on(CALLING)?;
+    all(CALLING)?;
     Ok(())
 }
 
 #[test]
 fn calls_halt() -> Result<(), Fail> {
-    halt(HALTING)?;
-    stick(STICKING)?;
+    all(HALTING)?;
+    all(STICKING)?;
     Ok(())
 }

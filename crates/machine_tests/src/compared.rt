@@ -8,21 +8,21 @@ use machine::registers::Flow;
 use machine::registers::Machine;
 use machine::registers::Outcome;
 
-// Two numbers that should be the same, the part that they tell of, and its cell, if it is one.
+// Two numbers that should be the same, the code that was tried, the part that they tell of, and its cell, if it is one.
 #[derive(Clone, Copy, Debug)]
 pub struct Difference {
+    pub code: u32,
     pub part: &'static str,
     pub cell: usize,
     pub expected: i128,
     pub seen: i128,
 }
 
-// A difference in a table: the group and the row, numbered from 0, and the code that was tried.
+// A difference in a table: the group and the row, numbered from 0.
 #[derive(Clone, Copy, Debug)]
 pub struct Mismatch {
     pub group: usize,
     pub row: usize,
-    pub code: u32,
     pub difference: Difference,
 }
 
@@ -37,26 +37,32 @@ pub enum End {
 
 // A row that cannot be tried: it has too many cells, or the machine's needs are not met.
 pub const UNFIT: Difference = Difference {
+    code: 0,
     part: "row",
     cell: 0,
     expected: 0,
     seen: 0,
 };
 
-pub fn in_row(
-    group: usize,
-    row: usize,
-    code: u32,
-    outcome: Result<(), Difference>,
-) -> Result<(), Mismatch> {
+pub fn in_row(group: usize, row: usize, outcome: Result<(), Difference>) -> Result<(), Mismatch> {
     match outcome {
         Ok(()) => Ok(()),
         Err(difference) => Err(Mismatch {
             group,
             row,
-            code,
             difference,
         }),
+    }
+}
+
+pub fn at_code(code: u32, outcome: Result<(), Difference>) -> Result<(), Difference> {
+    match outcome {
+        Ok(()) => Ok(()),
+        Err(difference) => {
+            let mut told = difference;
+            told.code = code;
+            Err(told)
+        }
     }
 }
 
@@ -65,6 +71,7 @@ pub fn same(part: &'static str, expected: i128, seen: i128) -> Result<(), Differ
         return Ok(());
     }
     Err(Difference {
+        code: 0,
         part,
         cell: 0,
         expected,
@@ -177,6 +184,7 @@ fn same_cell(cell: usize, expected: Cell, seen: Cell) -> Result<(), Difference> 
     let (seen_mark, seen_number) = cell_numbers(seen);
     if mark != seen_mark {
         return Err(Difference {
+            code: 0,
             part: "mark of a cell",
             cell,
             expected: mark,
@@ -185,6 +193,7 @@ fn same_cell(cell: usize, expected: Cell, seen: Cell) -> Result<(), Difference> 
     }
     if number != seen_number {
         return Err(Difference {
+            code: 0,
             part: "cell",
             cell,
             expected: number,

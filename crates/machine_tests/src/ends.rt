@@ -3,10 +3,11 @@ use crate::compared::End;
 use crate::compared::MismatchDebug;
 use crate::steps::Ending;
 use crate::steps::EndingGroup;
+use crate::steps::EndingRow;
 use crate::steps::FULL;
 use crate::steps::Image;
 use crate::steps::PLAIN;
-use crate::steps::end;
+use crate::steps::all;
 use language::values::Value;
 use language::values::ValueType;
 use machine::cells::Cell::Link;
@@ -77,6 +78,6 @@ const ENDING: &[EndingGroup] = &[
 
 #[test]
 fn runs_end_with_a_result_of_their_type() -> Result<(), Fail> {
-    end(ENDING)?;
+    all(ENDING)?;
     Ok(())
 }

@@ -3,12 +3,13 @@ use crate::compared::MismatchDebug;
 use crate::steps::Image;
 use crate::steps::Moving;
 use crate::steps::MovingGroup;
+use crate::steps::MovingRow;
 use crate::steps::PLAIN;
 use crate::steps::STEP;
 use crate::steps::Stuck;
 use crate::steps::StuckGroup;
-use crate::steps::move_on;
-use crate::steps::stick;
+use crate::steps::StuckRow;
+use crate::steps::all;
 use language::values::ValueType;
 use machine::cells::Cell;
 use machine::cells::Cell::Link;
@@ -382,12 +383,12 @@ const MOVING: &[MovingGroup] = &[(&[PLAIN], STEP, RIGHT), (&[PLAIN], STEP, HOPS)
 
 #[test]
 fn frames_are_tested() -> Result<(), Fail> {
-    stick(STICKING)?;
+    all(STICKING)?;
     Ok(())
 }
 
 #[test]
 fn frames_are_found() -> Result<(), Fail> {
-    move_on(MOVING)?;
+    all(MOVING)?;
     Ok(())
 }

@@ -3,16 +3,17 @@ use crate::compared::MismatchDebug;
 use crate::steps::FULL;
 use crate::steps::Going;
 use crate::steps::GoingGroup;
+use crate::steps::GoingRow;
 use crate::steps::Ground;
 use crate::steps::Halting;
 use crate::steps::HaltingGroup;
+use crate::steps::HaltingRow;
 use crate::steps::PLAIN;
 use crate::steps::Posting;
 use crate::steps::PostingGroup;
+use crate::steps::PostingRow;
 use crate::steps::STEP;
-use crate::steps::go_on;
-use crate::steps::halt;
-use crate::steps::post;
+use crate::steps::all;
 use host::one_line::OneLine;
 use machine::cells::Cell::Link;
 use machine::cells::Cell::Number;
@@ -139,18 +140,18 @@ const HALTING: &[HaltingGroup] = &[
 
 #[test]
 fn hosts_are_asked() -> Result<(), Fail> {
-    go_on(ASKING)?;
+    all(ASKING)?;
     Ok(())
 }
 
 #[test]
 fn hosts_take_postings() -> Result<(), Fail> {
-    post(POSTING)?;
+    all(POSTING)?;
     Ok(())
 }
 
 #[test]
 fn asking_and_posting_halt() -> Result<(), Fail> {
-    halt(HALTING)?;
+    all(HALTING)?;
     Ok(())
 }

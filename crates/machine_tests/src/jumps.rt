@@ -3,12 +3,13 @@ use crate::compared::MismatchDebug;
 use crate::steps::FULL;
 use crate::steps::Going;
 use crate::steps::GoingGroup;
+use crate::steps::GoingRow;
 use crate::steps::Halting;
 use crate::steps::HaltingGroup;
+use crate::steps::HaltingRow;
 use crate::steps::PLAIN;
 use crate::steps::STEP;
-use crate::steps::go_on;
-use crate::steps::halt;
+use crate::steps::all;
 use machine::cells::Cell::Link;
 use machine::cells::Cell::Number;
 use machine::cells::Cell::Truth;
@@ -79,12 +80,12 @@ const HALTING: &[HaltingGroup] = &[
 
 #[test]
 fn values_are_turned_dropped_and_jumped_on() -> Result<(), Fail> {
-    go_on(GOING)?;
+    all(GOING)?;
     Ok(())
 }
 
 #[test]
 fn not_drop_and_jumps_halt() -> Result<(), Fail> {
-    halt(HALTING)?;
+    all(HALTING)?;
     Ok(())
 }

@@ -3,13 +3,14 @@ use crate::compared::MismatchDebug;
 use crate::steps::FULL;
 use crate::steps::Halting;
 use crate::steps::HaltingGroup;
+use crate::steps::HaltingRow;
 use crate::steps::Image;
 use crate::steps::PLAIN;
 use crate::steps::STEP;
 use crate::steps::Stuck;
 use crate::steps::StuckGroup;
-use crate::steps::halt;
-use crate::steps::stick;
+use crate::steps::StuckRow;
+use crate::steps::all;
 use language::values::ValueType;
 use machine::cells::Cell::Link;
 use machine::cells::Cell::Number;
@@ -131,7 +132,7 @@ const STICKING: &[StuckGroup] = &[(&[PLAIN], STEP, NO_FRAME)];
 
 #[test]
 fn instructions_are_judged() -> Result<(), Fail> {
-    halt(HALTING)?;
-    stick(STICKING)?;
+    all(HALTING)?;
+    all(STICKING)?;
     Ok(())
 }

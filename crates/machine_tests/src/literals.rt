@@ -3,14 +3,15 @@ use crate::compared::MismatchDebug;
 use crate::steps::FULL;
 use crate::steps::Going;
 use crate::steps::GoingGroup;
+use crate::steps::GoingRow;
 use crate::steps::Ground;
 use crate::steps::HOST;
 use crate::steps::Halting;
 use crate::steps::HaltingGroup;
+use crate::steps::HaltingRow;
 use crate::steps::PLAIN;
 use crate::steps::STEP;
-use crate::steps::go_on;
-use crate::steps::halt;
+use crate::steps::all;
 use machine::cells::Cell::Link;
 use machine::cells::Cell::Number;
 use machine::cells::Cell::Truth;
@@ -57,12 +58,12 @@ const HALTING: &[HaltingGroup] = &[(&[PLAIN, FULL], STEP, UNLAWFUL), (&[FULL], S
 
 #[test]
 fn literals_are_pushed() -> Result<(), Fail> {
-    go_on(GOING)?;
+    all(GOING)?;
     Ok(())
 }
 
 #[test]
 fn literals_halt() -> Result<(), Fail> {
-    halt(HALTING)?;
+    all(HALTING)?;
     Ok(())
 }

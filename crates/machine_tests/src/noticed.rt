@@ -5,19 +5,20 @@ use crate::compared::Stands;
 use crate::runs::Program;
 use crate::runs::run_all;
 use crate::steps::EndingGroup;
+use crate::steps::EndingRow;
 use crate::steps::GoingGroup;
+use crate::steps::GoingRow;
 use crate::steps::HaltingGroup;
+use crate::steps::HaltingRow;
 use crate::steps::MovingGroup;
+use crate::steps::MovingRow;
 use crate::steps::PLAIN;
 use crate::steps::PostingGroup;
+use crate::steps::PostingRow;
 use crate::steps::STEP;
 use crate::steps::StuckGroup;
-use crate::steps::end;
-use crate::steps::go_on;
-use crate::steps::halt;
-use crate::steps::move_on;
-use crate::steps::post;
-use crate::steps::stick;
+use crate::steps::StuckRow;
+use crate::steps::all;
 use language::values::Value;
 use machine::cells::Cell;
 use machine::cells::Cell::Link;
@@ -204,7 +205,7 @@ const RUNS: &[(&str, &[Program])] = &[
 // The first row that is not noticed.
 fn going_unnoticed() -> Option<usize> {
     for (number, row) in GOING.iter().enumerate() {
-        if !notices(row.0, go_on(row.1)) {
+        if !notices(row.0, all(row.1)) {
             return Some(number);
         }
     }
@@ -213,7 +214,7 @@ fn going_unnoticed() -> Option<usize> {
 
 fn halting_unnoticed() -> Option<usize> {
     for (number, row) in HALTING.iter().enumerate() {
-        if !notices(row.0, halt(row.1)) {
+        if !notices(row.0, all(row.1)) {
             return Some(number);
         }
     }
@@ -222,7 +223,7 @@ fn halting_unnoticed() -> Option<usize> {
 
 fn ending_unnoticed() -> Option<usize> {
     for (number, row) in ENDING.iter().enumerate() {
-        if !notices(row.0, end(row.1)) {
+        if !notices(row.0, all(row.1)) {
             return Some(number);
         }
     }
@@ -231,7 +232,7 @@ fn ending_unnoticed() -> Option<usize> {
 
 fn moving_unnoticed() -> Option<usize> {
     for (number, row) in MOVING.iter().enumerate() {
-        if !notices(row.0, move_on(row.1)) {
+        if !notices(row.0, all(row.1)) {
             return Some(number);
         }
     }
@@ -251,14 +252,14 @@ fn runs_unnoticed() -> Option<usize> {
 fn wrong_steps_are_noticed() -> Result<(), Fail> {
     check_eq(going_unnoticed(), None)?;
     check_eq(moving_unnoticed(), None)?;
-    check(notices("total", post(TOTAL)))
+    check(notices("total", all(TOTAL)))
 }
 
 #[test]
 fn wrong_ends_are_noticed() -> Result<(), Fail> {
     check_eq(halting_unnoticed(), None)?;
     check_eq(ending_unnoticed(), None)?;
-    check(notices("kind of end", stick(FRAME)))
+    check(notices("kind of end", all(FRAME)))
 }
 
 #[test]

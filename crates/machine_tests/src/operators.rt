@@ -3,12 +3,13 @@ use crate::compared::MismatchDebug;
 use crate::steps::FULL;
 use crate::steps::Going;
 use crate::steps::GoingGroup;
+use crate::steps::GoingRow;
 use crate::steps::Halting;
 use crate::steps::HaltingGroup;
+use crate::steps::HaltingRow;
 use crate::steps::PLAIN;
 use crate::steps::STEP;
-use crate::steps::go_on;
-use crate::steps::halt;
+use crate::steps::all;
 use machine::cells::Cell;
 use machine::cells::Cell::Link;
 use machine::cells::Cell::Number;
@@ -198,12 +199,12 @@ const HALTING: &[HaltingGroup] = &[
 
 #[test]
 fn operators_are_applied() -> Result<(), Fail> {
-    go_on(GOING)?;
+    all(GOING)?;
     Ok(())
 }
 
 #[test]
 fn operators_halt() -> Result<(), Fail> {
-    halt(HALTING)?;
+    all(HALTING)?;
     Ok(())
 }

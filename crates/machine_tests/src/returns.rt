@@ -3,15 +3,16 @@ use crate::compared::MismatchDebug;
 use crate::steps::FULL;
 use crate::steps::Halting;
 use crate::steps::HaltingGroup;
+use crate::steps::HaltingRow;
 use crate::steps::Moving;
 use crate::steps::MovingGroup;
+use crate::steps::MovingRow;
 use crate::steps::PLAIN;
 use crate::steps::STEP;
 use crate::steps::Stuck;
 use crate::steps::StuckGroup;
-use crate::steps::halt;
-use crate::steps::move_on;
-use crate::steps::stick;
+use crate::steps::StuckRow;
+use crate::steps::all;
 use machine::cells::Cell;
 use machine::cells::Cell::Link;
 use machine::cells::Cell::Number;
@@ -204,13 +205,13 @@ const HALTING: &[HaltingGroup] = &[(&[PLAIN, FULL], STEP, IN_PROGRAM)];
 
 #[test]
 fn calls_return() -> Result<(), Fail> {
-    move_on(MOVING)?;
+    all(MOVING)?;
     Ok(())
 }
 
 #[test]
 fn returns_halt() -> Result<(), Fail> {
-    stick(STICKING)?;
-    halt(HALTING)?;
+    all(STICKING)?;
+    all(HALTING)?;
     Ok(())
 }

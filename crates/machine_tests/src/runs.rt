@@ -101,11 +101,11 @@ pub fn run_all(programs: &[Program]) -> Result<(), Mismatch> {
     for (number, program) in programs.iter().enumerate() {
         let count = program.1;
         if count > SPACE {
-            return in_row(0, number, 0, Err(UNFIT));
+            return in_row(0, number, Err(UNFIT));
         }
         let mut cells = [Cell::Truth(true); SPACE];
         let outcome = runs(*program, &mut cells[0..count]);
-        in_row(0, number, 0, outcome)?;
+        in_row(0, number, outcome)?;
     }
     Ok(())
 }
@@ -179,7 +179,7 @@ fn row_in_pieces(program: Program, piece: u32) -> Result<(), Difference> {
 pub fn run_all_in_pieces(programs: &[Program]) -> Result<(), Mismatch> {
     for (number, program) in programs.iter().enumerate() {
         for piece in 1..62u32 {
-            in_row(piece as usize, number, 0, row_in_pieces(*program, piece))?;
+            in_row(piece as usize, number, row_in_pieces(*program, piece))?;
         }
     }
     Ok(())
@@ -233,11 +233,11 @@ pub fn play_all(scripts: &[Script]) -> Result<(), Mismatch> {
     for (number, script) in scripts.iter().enumerate() {
         let count = script.cells.len();
         if count > SPACE {
-            return in_row(0, number, 0, Err(UNFIT));
+            return in_row(0, number, Err(UNFIT));
         }
         let mut cells = [Cell::Unset; SPACE];
         let outcome = plays(*script, &mut cells[0..count]);
-        in_row(0, number, 0, outcome)?;
+        in_row(0, number, outcome)?;
     }
     Ok(())
 }

@@ -3,6 +3,7 @@ use crate::compared::Difference;
 use crate::compared::End;
 use crate::compared::Mismatch;
 use crate::compared::UNFIT;
+use crate::compared::at_code;
 use crate::compared::end_of;
 use crate::compared::in_row;
 use crate::compared::same_cells;
@@ -58,12 +59,17 @@ pub const FULL: Ground = Ground {
 
 // A ground and an image.
 #[derive(Clone, Copy)]
-struct Setting {
+pub struct Setting {
     counter: u32,
     result: ValueType,
     entry: u32,
     host: OneLine,
     above: &'static [Cell],
+}
+
+// What is there before a step, and what is expected of it.
+pub trait Row {
+    fn tried(&self, setting: Setting) -> Result<(), Difference>;
 }
 
 fn set(ground: Ground, image: Image) -> Setting {
@@ -286,114 +292,48 @@ fn values_lead(setting: Setting, row: Going, host: OneLine) -> Result<(), Differ
     leads(setting, code, operand, from, End::Next, to)
 }
 
-fn going_rows(group: usize, setting: Setting, rows: &[Going]) -> Result<(), Mismatch> {
-    for (number, row) in rows.iter().enumerate() {
-        let outcome = values_lead(setting, *row, setting.host);
-        in_row(group, number, row.0, outcome)?;
+pub impl Row for Going as GoingRow {
+    fn tried(&self, setting: Setting) -> Result<(), Difference> {
+        at_code(self.0, values_lead(setting, *self, setting.host))
     }
-    Ok(())
 }
 
-// Working values: each step goes on.
-pub fn go_on(groups: &[GoingGroup]) -> Result<(), Mismatch> {
-    for (number, group) in groups.iter().enumerate() {
-        for ground in group.0 {
-            for image in group.1 {
-                going_rows(number, set(*ground, *image), group.2)?;
-            }
-        }
-    }
-    Ok(())
-}
-
-fn halting_rows(group: usize, setting: Setting, rows: &[Halting]) -> Result<(), Mismatch> {
-    for (number, row) in rows.iter().enumerate() {
-        let (codes, operand, values, halt) = *row;
+pub impl Row for Halting as HaltingRow {
+    fn tried(&self, setting: Setting) -> Result<(), Difference> {
+        let (codes, operand, values, halt) = *self;
         for code in codes {
             let outcome = values_keep(setting, *code, operand, values, End::Halt(halt));
-            in_row(group, number, *code, outcome)?;
+            at_code(*code, outcome)?;
         }
+        Ok(())
     }
-    Ok(())
 }
 
-// Working values: each step halts, and changes nothing.
-pub fn halt(groups: &[HaltingGroup]) -> Result<(), Mismatch> {
-    for (number, group) in groups.iter().enumerate() {
-        for ground in group.0 {
-            for image in group.1 {
-                halting_rows(number, set(*ground, *image), group.2)?;
-            }
-        }
+pub impl Row for Ending as EndingRow {
+    fn tried(&self, setting: Setting) -> Result<(), Difference> {
+        let (operand, values, end) = *self;
+        at_code(27, values_keep(setting, 27, operand, values, end))
     }
-    Ok(())
 }
 
-fn ending_rows(group: usize, setting: Setting, rows: &[Ending]) -> Result<(), Mismatch> {
-    for (number, row) in rows.iter().enumerate() {
-        let (operand, values, end) = *row;
-        let outcome = values_keep(setting, 27, operand, values, end);
-        in_row(group, number, 27, outcome)?;
-    }
-    Ok(())
-}
-
-// Working values: each 27 ends or halts, and changes nothing.
-pub fn end(groups: &[EndingGroup]) -> Result<(), Mismatch> {
-    for (number, group) in groups.iter().enumerate() {
-        for ground in group.0 {
-            for image in group.1 {
-                ending_rows(number, set(*ground, *image), group.2)?;
-            }
-        }
-    }
-    Ok(())
-}
-
-fn posting_rows(group: usize, setting: Setting, rows: &[Posting]) -> Result<(), Mismatch> {
-    for (number, row) in rows.iter().enumerate() {
-        let (values, total) = *row;
+pub impl Row for Posting as PostingRow {
+    fn tried(&self, setting: Setting) -> Result<(), Difference> {
+        let (values, total) = *self;
         let mut host = setting.host;
         host.posted = Some(total);
-        let outcome = values_lead(setting, (26, 0, values, 2, &[]), host);
-        in_row(group, number, 26, outcome)?;
+        at_code(26, values_lead(setting, (26, 0, values, 2, &[]), host))
     }
-    Ok(())
 }
 
-// Working values: each 26 posts.
-pub fn post(groups: &[PostingGroup]) -> Result<(), Mismatch> {
-    for (number, group) in groups.iter().enumerate() {
-        for ground in group.0 {
-            for image in group.1 {
-                posting_rows(number, set(*ground, *image), group.2)?;
-            }
-        }
-    }
-    Ok(())
-}
-
-fn stuck_rows(group: usize, setting: Setting, rows: &[Stuck]) -> Result<(), Mismatch> {
-    for (number, row) in rows.iter().enumerate() {
-        let (codes, operand, place, cells, halt) = *row;
+pub impl Row for Stuck as StuckRow {
+    fn tried(&self, setting: Setting) -> Result<(), Difference> {
+        let (codes, operand, place, cells, halt) = *self;
         for code in codes {
             let outcome = keeps(setting, *code, operand, place, cells, End::Halt(halt));
-            in_row(group, number, *code, outcome)?;
+            at_code(*code, outcome)?;
         }
+        Ok(())
     }
-    Ok(())
-}
-
-// All cells: each step halts, and changes nothing.
-pub fn stick(groups: &[StuckGroup]) -> Result<(), Mismatch> {
-    for (number, group) in groups.iter().enumerate() {
-        for ground in group.0 {
-            for image in group.1 {
-                stuck_rows(number, set(*ground, *image), group.2)?;
-            }
-        }
-    }
-    Ok(())
 }
 
 // Writes each changed cell.
@@ -430,25 +370,30 @@ fn moves(setting: Setting, row: Moving, after: &mut [Cell]) -> Result<(), Differ
     leads(setting, code, operand, from, End::Next, to)
 }
 
-fn moving_rows(group: usize, setting: Setting, rows: &[Moving]) -> Result<(), Mismatch> {
-    for (number, row) in rows.iter().enumerate() {
-        let count = row.3.len();
+pub impl Row for Moving as MovingRow {
+    fn tried(&self, setting: Setting) -> Result<(), Difference> {
+        let count = self.3.len();
         if count > SPACE {
-            return in_row(group, number, row.0, Err(UNFIT));
+            return Err(UNFIT);
         }
         let mut after = [Cell::Unset; SPACE];
-        let outcome = moves(setting, *row, &mut after[0..count]);
-        in_row(group, number, row.0, outcome)?;
+        at_code(self.0, moves(setting, *self, &mut after[0..count]))
+    }
+}
+
+fn all_rows<R: Row>(group: usize, setting: Setting, rows: &[R]) -> Result<(), Mismatch> {
+    for (number, row) in rows.iter().enumerate() {
+        in_row(group, number, row.tried(setting))?;
     }
     Ok(())
 }
 
-// All cells: each step goes on.
-pub fn move_on(groups: &[MovingGroup]) -> Result<(), Mismatch> {
+// Tries every row of every group.
+pub fn all<'a, R: Row>(groups: &[(&'a [Ground], &'a [Image], &'a [R])]) -> Result<(), Mismatch> {
     for (number, group) in groups.iter().enumerate() {
         for ground in group.0 {
             for image in group.1 {
-                moving_rows(number, set(*ground, *image), group.2)?;
+                all_rows(number, set(*ground, *image), group.2)?;
             }
         }
     }
