@@ -147,12 +147,12 @@ twoFrames = record {
   result = Int;
   others = 0;
   functions = more (function 4 Int 1 1
-    (more (function 25 Void 1 0 noFunctions (action (assign 36 1 1 (read 40 0 0)) noActions) nothing) noFunctions)
-    (action (assign 45 0 1 (integer 49 0)) noActions)
-    (giving (choice 52 (operation 58 Equal (read 56 0 0) (integer 61 0))
+      (more (function 25 Void 1 0 noFunctions (action (assign 36 1 1 (read 40 0 0)) noActions) nothing) noFunctions)
+      (action (assign 45 0 1 (integer 49 0)) noActions)
+      (giving (choice 52 (operation 58 Equal (read 56 0 0) (integer 61 0))
       (action (perform (call 66 1 0 (term (integer 68 5) noTerms))) noActions) (read 72 0 1)
       (action (perform (call 83 1 0 (term (read 85 0 0) noTerms))) noActions) (operation 99 Add (call 90 0 1 (term (operation 94 Subtract (read 92 0 0) (integer 96 1)) noTerms)) (read 101 0 1)))))
-    noFunctions;
+      noFunctions;
   actions = noActions;
   ending = giving (call 106 0 0 (term (integer 108 2) noTerms));
 }
