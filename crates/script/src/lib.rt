@@ -1,0 +1,4 @@
+// The lines of a script: their words, their numbers, and the commands that they write.
+pub mod numbers;
+pub mod problem;
+pub mod words;
