@@ -1,4 +1,6 @@
 // The lines of a script: their words, their numbers, and the commands that they write.
+pub mod command;
 pub mod numbers;
+pub mod parse;
 pub mod problem;
 pub mod words;
