@@ -5,7 +5,7 @@ use mathlib.Core.List.{List, [], _∷_, _++_, append-assoc, append-nil}
 use Prim.Native.Nat.{ℕ, zero, suc, _≤_, _<_, zero-le, suc-le-suc}
 use native.Mathlib.Nat.{add-zero}
 use native.Mathlib.Omega.{arith}
-use borrow.Author.Tests.{true-eqb, false-eqb}
+use borrow.Author.Tests.{true-eqb, false-eqb, ne-false}
 use lib.Dec.{eqb}
 use lib.ListN.{length, getD, take, drop, length-drop}
 use lib.Seq.{getD-drop}
@@ -66,10 +66,27 @@ after zero t some starts h all stops = absurd (stops some starts)
 after (suc n) t some starts h all stops =
     gathered (suc n) [] t h all (λ lt. other _ (stops lt)) ∙ word-first (suc n) t (omega arith) some
 
+-- the text after the blanks begins with another byte
+begins-so : (m : ℕ) (bs t : List ℕ) → t ≡ drop m bs → 0 < length t → (m < length bs → blank (getD bs m 0) ≡ true → ⊥) → blank (getD t 0 0) ≡ false
+begins-so m bs t is long begins =
+    let lies : m < length bs = omega (arith, ap length is, length-drop m bs) in
+    let first : getD t 0 0 ≡ getD bs m 0 = ap (λ l. getD l 0 0) is ∙ getD-drop m bs 0 0 ∙ ap (λ i. getD bs i 0) (add-zero m) in
+    ap blank first ∙ also _ (begins lies)
+
 -- blanks passed, then the first word
 pub cut : (m n : ℕ) (bs t w r : List ℕ) → t ≡ drop m bs → false ≡ eqb (length t) 0 → (m < length bs → blank (getD bs m 0) ≡ true → ⊥) → n ≤ length t → ((k : ℕ) → k < n → blank (getD t k 0) ≡ false) → (n < length t → blank (getD t n 0) ≡ false → ⊥) → w ≡ take n t → r ≡ drop n t → words (drop m bs) ≡ w ∷ words r
 cut m n bs t w r is some begins h all stops front back =
     let long : 0 < length t = omega (arith, false-eqb (length t) 0 some) in
-    let lies : m < length bs = omega (arith, ap length is, length-drop m bs) in
-    let first : getD t 0 0 ≡ getD bs m 0 = ap (λ l. getD l 0 0) is ∙ getD-drop m bs 0 0 ∙ ap (λ i. getD bs i 0) (add-zero m) in
-    ap words (sym is) ∙ after n t long (ap blank first ∙ also _ (begins lies)) h all stops ∙ (λ i. sym front i ∷ words (sym back i))
+    ap words (sym is) ∙ after n t long (begins-so m bs t is long begins) h all stops ∙ (λ i. sym front i ∷ words (sym back i))
+
+-- the first word has a byte
+pub some-byte : (m n : ℕ) (bs t : List ℕ) → t ≡ drop m bs → false ≡ eqb (length t) 0 → (m < length bs → blank (getD bs m 0) ≡ true → ⊥) → (n < length t → blank (getD t n 0) ≡ false → ⊥) → 0 < n
+some-byte m zero bs t is some begins stops =
+    let long : 0 < length t = omega (arith, false-eqb (length t) 0 some) in
+    absurd (stops long (begins-so m bs t is long begins))
+some-byte m (suc n) bs t is some begins stops = omega arith
+
+-- a text of no bytes begins with none
+pub nothing-first : (bs : List ℕ) (b : ℕ) → true ≡ eqb (length bs) 0 → 0 < b → false ≡ eqb (getD bs 0 0) b
+nothing-first [] b e h = ne-false 0 b (λ same. omega arith)
+nothing-first (x ∷ bs) b e h = absurd (omega (arith, true-eqb (length (x ∷ bs)) 0 e))

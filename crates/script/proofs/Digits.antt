@@ -41,11 +41,6 @@ pub full : (bs : List ℕ) → false ≡ eqb (length bs) 0 → readOn 0 bs ≡ w
 unfolding wordOf
 full bs e = ap (λ b. cond b (Err NotNumber) (readOn 0 bs)) e
 
--- a text of no bytes has no minus
-pub no-minus : (bs : List ℕ) → true ≡ eqb (length bs) 0 → false ≡ eqb (getD bs 0 0) 45
-no-minus [] e = refl
-no-minus (b ∷ bs) e = absurd (omega (arith, true-eqb (length (b ∷ bs)) 0 e))
-
 -- the word after a minus
 pub after-minus : (bs : List ℕ) (m : Result ℤ Problem) (r : Result ℕ Problem) → true ≡ eqb (getD bs 0 0) 45 → r ≡ wordOf (take (length bs - 1) (drop 1 bs)) → m ≡ negative r → m ≡ signedOf bs
 after-minus bs m r minus read says =

@@ -145,6 +145,10 @@ abbrev pub Found : {V : Type 0} → (V → List ℕ) → Result V Problem → Re
 Found items (Ok v) s = s ≡ Ok (items v)
 Found items (Err e) s = (e ≡ NoMemory) ⊎ (s ≡ Err e)
 
+abbrev pub Asked : Result Line Problem → Result (Command × List ℕ) Problem → Type 0
+Asked (Ok l) s = s ≡ Ok (l .command, vec-items (l .words))
+Asked (Err e) s = (e ≡ NoMemory) ⊎ (s ≡ Err e)
+
 abbrev pub Parsed : Result (Option Line) Problem → Result (Option (Command × List ℕ)) Problem → Type 0
 Parsed (Ok None) s = s ≡ Ok None
 Parsed (Ok (Some l)) s = s ≡ Ok (Some (l .command, vec-items (l .words)))

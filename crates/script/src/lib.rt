@@ -1,6 +1,7 @@
 // The lines of a script: their words, their numbers, and the commands that they write.
 pub mod command;
+pub mod line;
 pub mod numbers;
-pub mod parse;
+mod parse;
 pub mod problem;
 pub mod words;

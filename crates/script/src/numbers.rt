@@ -1,11 +1,8 @@
 // Words that write numbers.
 ghost use mathlib.Core.Path.{_≡_};
-ghost use Prim.Native.Nat.{_<_};
-ghost use mathlib.Core.Bool.{true};
-ghost use lib.Dec.{eqb};
-ghost use lib.ListN.{length, getD};
 ghost use Rattle.script.specs.Numbers.{negative, oneMore, positive, signedOf, wordOf};
 use crate::problem::Problem;
+use crate::words::begins;
 
 // A number with one digit more.
 fn one_more(number: u32, byte: u8) -> Result<u32, Problem>
@@ -33,16 +30,6 @@ pub fn word(text: &[u8]) -> Result<u32, Problem>
         number = one_more(number, *byte)?;
     }
     Ok(number)
-}
-
-fn has_minus(text: &[u8]) -> bool
-    ensures value { λ r. ⌜ r ≡ eqb (getD (now (text .entry)) 0 0) 45 ⌝ }
-    ensures some { λ r. ⌜ (r ≡ true → 0 < length (now (text .entry))) ⌝ }
-{
-    if text.is_empty() {
-        return false;
-    }
-    text[0] == b'-'
 }
 
 fn positive(size: Result<u32, Problem>) -> Result<i32, Problem>
@@ -77,7 +64,7 @@ fn negative(size: Result<u32, Problem>) -> Result<i32, Problem>
 pub fn signed(text: &[u8]) -> Result<i32, Problem>
     ensures { λ r. ⌜ r ≡ signedOf (now (text .entry)) ⌝ }
 {
-    if has_minus(text) {
+    if begins(text, b'-') {
         return negative(word(&text[1..]));
     }
     positive(word(text))

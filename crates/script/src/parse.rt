@@ -19,7 +19,7 @@ fn is(name: &[u8], text: &[u8]) -> bool
 }
 
 // The command that a word names.
-fn verb(name: &[u8]) -> Option<Verb>
+pub(crate) fn verb(name: &[u8]) -> Option<Verb>
     ensures { λ r. ⌜ r ≡ verbOf (now (name .entry)) ⌝ }
 {
     if is(name, b"area") {
@@ -162,7 +162,7 @@ fn trace(text: &[u8]) -> Result<(Command, &[u8]), Problem>
 }
 
 // A command with its numbers, and the text after them.
-fn head(verb: Verb, text: &[u8]) -> Result<(Command, &[u8]), Problem>
+pub(crate) fn head(verb: Verb, text: &[u8]) -> Result<(Command, &[u8]), Problem>
     ensures { λ r. ⌜ Took r (headOf verb (words (now (text .entry)))) ⌝ }
 {
     match verb {

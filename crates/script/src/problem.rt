@@ -1,4 +1,7 @@
 // Why a line is no call.
+ghost use mathlib.Core.Path.{_≡_};
+ghost use Rattle.script.specs.declared.problem.Problem.the-variants.{NoMemory};
+use std::alloc::AllocError;
 use std::fmt;
 
 #[derive(Clone, Copy, PartialEq, Eq, Debug)]
@@ -40,5 +43,14 @@ impl Problem {
 pub impl fmt::Display for Problem as ProblemDisplay {
     fn fmt<W: fmt::Write>(&self, f: &mut fmt::Formatter<W>) -> fmt::Result {
         f.write_str(self.text())
+    }
+}
+
+// Whatever finds no memory is such a problem.
+pub impl From<AllocError> for Problem as ProblemFromAlloc {
+    ghost converts = { λ _ p. p ≡ NoMemory };
+
+    fn from(_error: AllocError) -> Problem {
+        Problem::NoMemory
     }
 }

@@ -1,95 +1,95 @@
-// Runs the image of `1 + 2 * 3` step by step, first with cells to spare and then with too few.
-use host::one_line::OneLine;
-use host::one_line::OneLineHost;
-use image::accept::accept;
-use image::instruction::Header;
-use language::faults::Cause;
-use machine::cells::Cell;
-use machine::registers::Machine;
-use machine::registers::Outcome;
-use machine::registers::Ran;
+// Reads calls, one a line, and answers each: from standard input, or from the files named as arguments, in order.
+use script::command::Command;
+use script::line::parse;
+use script::problem::Problem;
+use script::problem::ProblemDisplay;
+use session::Session;
+use std::env;
 use std::error::AnyError;
-use trace::instruction_text;
-use trace::outcome_text;
-use trace::working_text;
+use std::fs::File;
+use std::io::BufRead;
+use std::io::BufReader;
 
-// `1 + 2 * 3`
-const SUM: [u32; 16] = [7, 1, 22, 1, 1, 1, 5, 7, 27, 0, 1, 2, 3, 0, 0, 1];
+mod reading;
+mod session;
+mod steps;
+mod texts;
 
-// One step and its line; the steps so far are counted on.
-fn step_line(
-    rt: &LibcRuntime,
-    machine: &mut Machine,
-    header: Header,
-    cells: &mut [Cell],
-    host: &mut OneLine,
-) -> Result<Ran, AnyError> {
-    let heap = rt.alloc();
-    let counter = machine.counter;
-    if SUM.len() < 2 + 2 * header.count as usize
-        || machine.top > cells.len()
-        || cells.len() > 65_536
-    {
-        return Err("no such run".into());
-    }
-    let ran = machine.run(&SUM, header, cells, host, 1);
-    if ran.steps > 0 {
-        let instruction = instruction_text(heap, &SUM, header, counter)?;
-        let values = working_text(heap, *machine, cells)?;
-        println!(rt, "{counter}: {instruction} ->{values}")?;
-    }
-    Ok(ran)
+use reading::Input;
+use reading::read_line;
+use steps::trace;
+
+fn print_problem(rt: &LibcRuntime, number: u64, problem: Problem) -> Result<(), AnyError> {
+    println!(rt, "error: line {number}: {problem}")?;
+    Ok(())
 }
 
-// A whole run on so many cells, each step printed, then its outcome.
-fn run(rt: &LibcRuntime, cells: &mut [Cell]) -> Result<(), AnyError> {
-    let mut host = OneLine {
-        field: 0,
-        amount: 0,
-        flag: false,
-        account: 0,
-        posted: None,
+// Answers one line.
+fn answer(
+    rt: &LibcRuntime,
+    session: &mut Session,
+    number: u64,
+    text: &[u8],
+) -> Result<(), AnyError> {
+    let line = match parse(rt.alloc(), text) {
+        Err(problem) => return print_problem(rt, number, problem),
+        Ok(None) => return Ok(()),
+        Ok(Some(line)) => line,
     };
-    let Ok(image) = accept(&SUM) else {
-        return Err("no image".into());
-    };
-    let mut machine = match Machine::begin(image.others, cells) {
-        Ok(machine) => machine,
-        Err(refusal) => {
-            let number = Cause::Begin(refusal).number();
-            println!(rt, "begin: refused {number}")?;
-            return Ok(());
+    if let Command::Trace(steps) = line.command {
+        if session.has_host() {
+            return trace(rt, session, steps);
         }
-    };
-    let mut steps: u32 = 0;
-    for _ in 0..100 {
-        let ran = step_line(rt, &mut machine, image.header, cells, &mut host)?;
-        steps = ran.steps.saturating_add(steps);
-        match ran.outcome {
-            Outcome::Paused => {}
-            Outcome::Finished(_) | Outcome::Halted(_, _) => {
-                let text = outcome_text(
-                    rt.alloc(),
-                    Ran {
-                        steps,
-                        outcome: ran.outcome,
-                    },
-                )?;
-                println!(rt, "{text}")?;
-                return Ok(());
-            }
+    }
+    match session.answer(&line) {
+        Err(problem) => print_problem(rt, number, problem),
+        Ok(text) => {
+            println!(rt, "{text}")?;
+            Ok(())
+        }
+    }
+}
+
+// Answers all lines of an input.
+fn answer_all<B: BufRead>(
+    rt: &LibcRuntime,
+    session: &mut Session,
+    reader: &mut B,
+) -> Result<(), AnyError> {
+    let mut line = Vec::new(rt.alloc());
+    for number in 1..u64::MAX {
+        match read_line(reader, &mut line)? {
+            Input::End => break,
+            Input::TooLong => print_problem(rt, number, Problem::LongLine)?,
+            Input::Line => answer(rt, session, number, line.as_slice())?,
         }
     }
     Ok(())
 }
 
-fn examples(rt: &LibcRuntime) -> Result<(), AnyError> {
-    println!(rt, "1 + 2 * 3 with 64 cells")?;
-    run(rt, &mut [Cell::Number(99); 64])?;
-    println!(rt, "1 + 2 * 3 with 6 cells")?;
-    run(rt, &mut [Cell::Number(99); 6])
+fn answer_file(rt: &LibcRuntime, session: &mut Session, path: &str) -> Result<(), AnyError> {
+    match File::open(rt, path) {
+        Err(error) => {
+            eprintln!(rt, "tariff: cannot read {path}: {error}")?;
+            Err("a file could not be read".into())
+        }
+        Ok(file) => answer_all(rt, session, &mut BufReader::new(file)),
+    }
+}
+
+fn run(rt: &LibcRuntime) -> Result<(), AnyError> {
+    let mut session = Session::new(rt.alloc());
+    let mut has_files = false;
+    for path in env::args(rt)?.skip(1) {
+        has_files = true;
+        answer_file(rt, &mut session, path.as_str())?;
+    }
+    if has_files {
+        return Ok(());
+    }
+    answer_all(rt, &mut session, &mut BufReader::new(rt.stdin()))
 }
 
 fn main(rt: LibcRuntime) -> Result<(), AnyError> {
-    rt.report(examples(&rt))
+    rt.report(run(&rt))
 }
