@@ -42,7 +42,7 @@ fn print_step(
 // One step of a run that can go on, printed if it was carried out.
 fn step(rt: &LibcRuntime, session: &mut Session) -> Result<Next, AnyError> {
     let stage = session.stage();
-    let answer = session.play(Call::Continue(1));
+    let answer = session.play(&[Call::Continue(1)]);
     let Stage::Running(loaded, machine) = stage else {
         return Ok(Next::Is(answer));
     };
@@ -57,8 +57,11 @@ fn step(rt: &LibcRuntime, session: &mut Session) -> Result<Next, AnyError> {
 
 // Continues a run one step at a time. What `continue` refuses is refused here.
 pub fn trace(rt: &LibcRuntime, session: &mut Session, most: u32) -> Result<(), AnyError> {
-    let asked = if most > MOST_STEPS { most } else { 0 };
-    let mut answer = session.play(Call::Continue(asked));
+    let mut answer = if most > MOST_STEPS {
+        session.play(&[Call::Continue(u32::MAX)])
+    } else {
+        session.play(&[Call::Continue(0)])
+    };
     let mut steps: u32 = 0;
     for _ in 0..most {
         match answer {

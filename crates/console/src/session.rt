@@ -7,6 +7,7 @@ use engine::call::Answer;
 use engine::call::Call;
 use engine::record::Record;
 use engine::record::Stage;
+use host::Host;
 use host::one_line::OneLine;
 use host::one_line::OneLineHost;
 use language::faults::Fault;
@@ -55,11 +56,9 @@ impl Session {
         }
     }
 
-    // Plays one call. Without a host only calls are played that ask none.
-    pub fn play(&mut self, call: Call) -> Answer {
-        let mut answers = [Answer::Cleared];
-        let calls = [call];
-        match &mut self.host {
+    // Plays a call. Without a host only calls are played that ask none.
+    pub fn play(&mut self, calls: &[Call]) -> Answer {
+        match self.host {
             Served::Nothing => {
                 let mut host = OneLine {
                     field: 0,
@@ -68,33 +67,32 @@ impl Session {
                     account: 0,
                     posted: None,
                 };
-                self.record.play(
-                    &mut self.buffer,
-                    &mut self.cells,
-                    &mut host,
-                    &calls,
-                    &mut answers,
-                );
+                self.play_on(&mut host, calls)
             }
             Served::Declared(host) => {
-                self.record.play(
-                    &mut self.buffer,
-                    &mut self.cells,
-                    host,
-                    &calls,
-                    &mut answers,
-                );
+                let mut host = host;
+                let answer = self.play_on(&mut host, calls);
+                self.host = Served::Declared(host);
+                answer
             }
-            Served::Filled(host) => {
-                self.record.play(
-                    &mut self.buffer,
-                    &mut self.cells,
-                    host,
-                    &calls,
-                    &mut answers,
-                );
+            Served::Filled(sheet) => {
+                let mut sheet = sheet;
+                let answer = self.play_on(&mut sheet, calls);
+                self.host = Served::Filled(sheet);
+                answer
             }
         }
+    }
+
+    fn play_on<H: Host>(&mut self, host: &mut H, calls: &[Call]) -> Answer {
+        let mut answers = [Answer::Cleared];
+        self.record.play(
+            &mut self.buffer,
+            &mut self.cells,
+            host,
+            calls,
+            &mut answers,
+        );
         answers[0]
     }
 
@@ -159,20 +157,24 @@ impl Session {
     }
 
     fn set_amount(&mut self, field: u32, value: i32) -> Result<String, Problem> {
-        match &mut self.host {
+        match self.host {
             Served::Nothing | Served::Declared(_) => Err(Problem::NoWorksheet),
             Served::Filled(sheet) => {
+                let mut sheet = sheet;
                 let answer = sheet.set_amount(field, value);
+                self.host = Served::Filled(sheet);
                 self.row_text("amount", answer)
             }
         }
     }
 
     fn set_flag(&mut self, field: u32, flag: bool) -> Result<String, Problem> {
-        match &mut self.host {
+        match self.host {
             Served::Nothing | Served::Declared(_) => Err(Problem::NoWorksheet),
             Served::Filled(sheet) => {
+                let mut sheet = sheet;
                 let answer = sheet.set_flag(field, flag);
+                self.host = Served::Filled(sheet);
                 self.row_text("flag", answer)
             }
         }
@@ -223,8 +225,8 @@ impl Session {
         Ok(text)
     }
 
-    fn played_text(&mut self, name: &str, call: Call) -> Result<String, Problem> {
-        let answer = self.play(call);
+    fn played_text(&mut self, name: &str, calls: &[Call]) -> Result<String, Problem> {
+        let answer = self.play(calls);
         Ok(answer_text(self.heap, name, answer)?)
     }
 
@@ -238,15 +240,15 @@ impl Session {
             Command::Worksheet(accounts, lines) => Ok(self.make_worksheet(accounts, lines)?),
             Command::Amount(field, value) => self.set_amount(field, value),
             Command::Flag(field, flag) => self.set_flag(field, flag),
-            Command::Bring => self.played_text("bring", Call::Bring(line.words.as_slice())),
-            Command::Begin => self.played_text("begin", Call::Begin),
+            Command::Bring => self.played_text("bring", &[Call::Bring(line.words.as_slice())]),
+            Command::Begin => self.played_text("begin", &[Call::Begin]),
             Command::Continue(allowance) | Command::Trace(allowance) => {
                 if !self.has_host() {
                     return Err(Problem::NoHost);
                 }
-                self.played_text("continue", Call::Continue(allowance))
+                self.played_text("continue", &[Call::Continue(allowance)])
             }
-            Command::Clear => self.played_text("clear", Call::Clear),
+            Command::Clear => self.played_text("clear", &[Call::Clear]),
             Command::Image => Ok(self.image_text()?),
             Command::Totals => self.totals_text(),
             Command::State => {
