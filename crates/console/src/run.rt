@@ -1,12 +1,12 @@
 // Inputs, line by line.
-use script::command::Command;
-use script::line::parse;
-use script::problem::Problem;
-use script::problem::ProblemDisplay;
 use crate::reading::Input;
 use crate::reading::read_line;
 use crate::session::Session;
 use crate::steps::trace;
+use script::command::Command;
+use script::line::parse;
+use script::problem::Problem;
+use script::problem::ProblemDisplay;
 use std::env;
 use std::error::AnyError;
 use std::fs::File;
