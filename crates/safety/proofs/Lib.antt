@@ -3,3 +3,5 @@ pub mod Worlds
 pub mod Scoped
 pub mod Reading
 pub mod Alike
+pub mod Fine
+pub mod Terms
