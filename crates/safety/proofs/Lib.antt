@@ -5,3 +5,8 @@ pub mod Reading
 pub mod Alike
 pub mod Fine
 pub mod Terms
+pub mod Calling
+pub mod Declaring
+pub mod Whole
+pub mod LawfulTerms
+pub mod Lawful

@@ -25,7 +25,7 @@ use Rattle.safety.proofs.Scoped.{Signature, Stands, Each, Describes, Marked, S
 use Rattle.safety.proofs.Scoped.Signature.{signature}
 use Rattle.safety.proofs.Scoped.Looks.{inThis, further}
 
-variable-slot : {sigs : List Signature} {ks : List Kind} {shape : Shape} {s : Status} {t : ValueType} {k : ℕ} → Stands sigs (ks ∷ shape) (variable s t k) → (s′ : Status) × At ks k (kind s′ t)
+pub variable-slot : {sigs : List Signature} {ks : List Kind} {shape : Shape} {s : Status} {t : ValueType} {k : ℕ} → Stands sigs (ks ∷ shape) (variable s t k) → (s′ : Status) × At ks k (kind s′ t)
 variable-slot (Stands.aVariable {s′} a) = (s′, a)
 
 function-number : {sigs : List Signature} {shape : Shape} {n : ℕ} {ts : List ValueType} {t : ValueType} → Stands sigs shape (function n ts t) → At sigs n (signature shape ts t)

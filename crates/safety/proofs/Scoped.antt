@@ -81,6 +81,7 @@ looks x (scope ∷ Γ) h n e = at (find x scope) refl (lookup x Γ) (looks x Γ)
     moved k m a b e =
         let r : _≡_ {A = Found} (record { hops = k; named = a }) (record { hops = m; named = b }) = cc in
         (ap (λ (f : Found). f .hops) r, ap (λ (f : Found). f .named) r)
+
     at : (o : Option Named) → find x scope ≡ o → (l : Option Found) → ((h : ℕ) (n : Named) → l ≡ found h n → Looks x Γ h n) → orOutward o l ≡ found h n → Looks x (scope ∷ Γ) h n
     at (Some m) i l ih e = let q = moved 0 h m n e in subst (λ k. Looks x (scope ∷ Γ) k n) (q .0) (inThis (i ∙ ap Some (q .1)))
     at None i None ih e = let z : _≡_ {A = ℕ} 0 1 = cc in absurd (omega arith)
