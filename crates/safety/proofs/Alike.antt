@@ -1,6 +1,6 @@
 -- Statements change nothing of the scopes but the statuses of variables. Assumes nothing.
 use mathlib.Core.Bool.{Bool, true, false, cond}
-use mathlib.Core.List.{List, [], _∷_, _++_}
+use mathlib.Core.List.{List, [], _∷_}
 use Prim.Native.Nat.{ℕ}
 use lib.Dec.{eqb}
 use Rattle.language.specs.declared.values.ValueType.{ValueType}
@@ -12,7 +12,7 @@ use Rattle.typing.specs.Scopes.{Status, Named, Binding, Scope, Env, bind, find,
 use Rattle.typing.specs.Scopes.Status.{dec, init}
 use Rattle.typing.specs.Scopes.Named.{variable, function}
 use Rattle.typing.specs.Rules.{Runs, RunsAll, RunsBlock}
-use Rattle.safety.proofs.Worlds.{Kind, Shape}
+use Rattle.safety.proofs.Worlds.{Shape}
 use Rattle.safety.proofs.Scoped.{Signature, Stands, Each, Describes, Marked, Sets}
 
 -- the same but for the status

@@ -1,9 +1,8 @@
 -- Calls of functions whose bodies are typed do not come to trouble, at any depth. Assumes nothing.
-use mathlib.Core.Path.{_≡_, refl, sym, ap, subst, _∙_}
+use mathlib.Core.Path.{_≡_, refl, sym, ap, subst}
 use mathlib.Core.Bool.{cond}
 use mathlib.Core.List.{List, [], _∷_, _++_, map}
 use Prim.Native.Nat.{ℕ, zero, suc}
-use lib.Dec.{eqb}
 use lib.ListN.{length, replicate}
 use Rattle.std.proofs.shelf.Tests.{eq-eqb}
 use Rattle.std.specs.declared.option.Option.{Option}
@@ -26,7 +25,7 @@ use Rattle.safety.proofs.Worlds.Kind.{kind}
 use Rattle.safety.proofs.Scoped.{Signature, Describes, Sets}
 use Rattle.safety.proofs.Scoped.Signature.{signature}
 use Rattle.safety.proofs.Alike.{alike-all, alike-describes}
-use Rattle.safety.proofs.Fine.{Fine, fine-map, fine-then, fine-given}
+use Rattle.safety.proofs.Fine.{Fine, fine-then, fine-given}
 use Rattle.safety.proofs.Terms.{Goes, Gives, AreOf, Able, onward, actions-fine, ending-fine}
 
 -- the slots of a function's frame: its parameters, set, then its other variables

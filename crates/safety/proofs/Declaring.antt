@@ -1,7 +1,7 @@
 -- From the derivation of a program's declarations: the shape of each frame, the signature of each function, and that every function keeps to its own. Assumes nothing.
 use mathlib.Core.Path.{_≡_, refl, sym, ap, subst, _∙_}
 use mathlib.Core.List.{List, [], _∷_, _++_, map}
-use Prim.Native.Nat.{ℕ, zero, suc, _+_}
+use Prim.Native.Nat.{ℕ, _+_}
 use native.Mathlib.Nat.{zero-add}
 use native.Mathlib.Omega.{arith}
 use lib.ListN.{length}
@@ -15,10 +15,9 @@ use Rattle.table.specs.Tree.Declaration.{variable as aVariable, function as aFu
 use Rattle.table.specs.Tree.Declarations.{noDeclarations, declaration}
 use Rattle.table.specs.Tree.Body.{body}
 use Rattle.rules.specs.Resolved.{Actions, Ending, Function, Functions, all, withInner}
-use Rattle.rules.specs.Resolved.Functions.{noFunctions, more}
 use Rattle.rules.specs.Evaluate.{Env as Chain}
 use Rattle.rules.specs.Evaluate.{Slots}
-use Rattle.typing.specs.Scopes.{Status, Named, Scope, Env, enter}
+use Rattle.typing.specs.Scopes.{Named, Scope, Env, enter}
 use Rattle.typing.specs.Scopes.Status.{dec, init}
 use Rattle.typing.specs.Scopes.Named.{variable, function}
 use Rattle.typing.specs.Rules.{Parameters, Declares, DeclaresAll, HasBody}

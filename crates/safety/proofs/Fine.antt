@@ -1,10 +1,10 @@
 -- Evaluation that does not come to trouble, and whose result is as promised. Assumes nothing.
-use mathlib.Core.Path.{_≡_, refl, sym, subst}
+use mathlib.Core.Path.{sym, subst}
 use mathlib.Core.Bool.{Bool, true, false, cond}
-use mathlib.Core.List.{List, [], _∷_, _++_}
+use mathlib.Core.List.{_++_}
 use Prim.Native.Nat.{ℕ, _<_}
 use lib.Dec.{ltb}
-use lib.IntN.{ℤ}
+use lib.IntN.{ℤ, pos, negsuc}
 use lib.ListN.{length}
 use Rattle.std.proofs.shelf.Tests.{lt-ltb}
 use Rattle.std.specs.declared.option.Option.{Option}
@@ -14,12 +14,13 @@ use Rattle.std.specs.declared.result.Result.the-variants.{Ok, Err}
 use Rattle.language.specs.declared.faults.Halt.{Halt}
 use Rattle.language.specs.declared.faults.Halt.the-variants.{Troubled, Stopped}
 use Rattle.language.specs.declared.faults.Stop.{Stop}
+use Rattle.language.specs.declared.faults.Stop.the-variants.{NoSuchNumber}
 use Rattle.language.specs.declared.values.Value.{Value}
 use Rattle.language.specs.declared.values.Value.the-variants.{Number, Truth}
 use Rattle.language.specs.declared.values.Operator.{Operator}
 use Rattle.language.specs.declared.values.ValueType.{ValueType}
 use Rattle.language.specs.declared.values.ValueType.the-variants as types
-use Rattle.language.specs.Operators.{applied, inRange, quotient}
+use Rattle.language.specs.Operators.{applied}
 use Rattle.language.specs.Operators.{number as asNumber}
 use Rattle.host.specs.Serves.{Serves, numbered, fromHost, amountAt, flagAt, postAt}
 use Rattle.rules.specs.Evaluate.{Env, Eval, andThen, some, wanted, valued, answered, charged, backUnder, reaching, either, nothingOf, given, typed}
@@ -126,12 +127,12 @@ host-stops (Ok a) = tt
 host-stops (Err c) = tt
 
 numbered-stops : (z : ℤ) → Stops (numbered z)
-numbered-stops (lib.IntN.ℤ.pos n) = at (ltb n 256)
+numbered-stops (pos n) = at (ltb n 256)
   where
-    at : (b : Bool) → Stops (cond b (Ok n) (Err (Stopped Rattle.language.specs.declared.faults.Stop.the-variants.NoSuchNumber)))
+    at : (b : Bool) → Stops (cond b (Ok n) (Err (Stopped NoSuchNumber)))
     at true = tt
     at false = tt
-numbered-stops (lib.IntN.ℤ.negsuc n) = tt
+numbered-stops (negsuc n) = tt
 
 amount-stops : {S : Type 0} (ops : Serves S) (s : S) (r : Result ℕ Halt) → Stops r → Stops (amountAt ops s r)
 amount-stops ops s (Ok n) h = host-stops (ops .amount s n)

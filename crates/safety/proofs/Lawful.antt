@@ -1,25 +1,24 @@
 -- Typed programs that keep to the limits are lawful. Assumes nothing.
 use mathlib.Core.Path.{_≡_, refl, sym, ap, subst, _∙_}
-use mathlib.Core.List.{List, [], _∷_, _++_, map}
+use mathlib.Core.List.{List, [], _∷_}
 use Prim.Native.Nat.{ℕ, suc, _+_, _≤_, _<_}
-use native.Mathlib.Nat.{zero-add}
 use native.Mathlib.Omega.{arith}
 use lib.ListN.{length}
 use Rattle.std.proofs.shelf.Lists.{append-nil, length-append, length-map}
 use Rattle.language.specs.declared.values.ValueType.{ValueType}
-use Rattle.table.specs.Tree.{Parameter, Declaration, Declarations, Body, Program, Statements, Final}
+use Rattle.table.specs.Tree.{Parameter, Declaration, Declarations, Body, Statements, Final}
 use Rattle.table.specs.Tree.Declaration.{variable as aVariable, function as aFunction}
 use Rattle.table.specs.Tree.Declarations.{noDeclarations, declaration}
-use Rattle.table.specs.Layout.{Branches, Limited, LimitedAll, ofStatements, ofFinal, ofParameters, ofDeclaration, ofDeclarations, ofBody, WithinLimits}
-use Rattle.rules.specs.Resolved.{Function, Functions, Actions, Ending, Rules, all}
-use Rattle.typing.specs.Scopes.{Scope, Env, enter}
-use Rattle.typing.specs.Rules.{RunsAll, Ends, Parameters, Declares, DeclaresAll, HasBody, IsTyped}
-use Rattle.typing.specs.Limits.{Fits, FitsAll, FitsBody, WithinNames}
-use Rattle.safety.specs.Lawful.{LawfulFunctions, LawfulActions, LawfulEnding, Lawful, LawfulWhereTyped}
+use Rattle.table.specs.Layout.{Branches, Limited, LimitedAll, ofStatements, ofFinal, ofParameters, ofDeclaration, ofDeclarations, ofBody}
+use Rattle.rules.specs.Resolved.{Function, Functions, Actions, Ending, all}
+use Rattle.typing.specs.Scopes.{Env}
+use Rattle.typing.specs.Rules.{RunsAll, Ends, Declares, DeclaresAll, HasBody, IsTyped}
+use Rattle.typing.specs.Limits.{Fits, FitsAll, FitsBody}
+use Rattle.safety.specs.Lawful.{LawfulFunctions, LawfulActions, LawfulEnding, LawfulWhereTyped}
 use Rattle.safety.proofs.Places.{segment-all}
 use Rattle.safety.proofs.Worlds.{Kind, Shape}
 use Rattle.safety.proofs.Worlds.Kind.{kind}
-use Rattle.typing.specs.Scopes.Status.{dec, init}
+use Rattle.typing.specs.Scopes.Status.{dec}
 use Rattle.safety.proofs.Scoped.{Signature, Describes}
 use Rattle.safety.proofs.Calling.{kinds, AllSound}
 use Rattle.safety.proofs.Declaring.{typesOf, declaredBefore, declaredTypes, bodyTypes, signatures, allSignatures, bodySignatures, Leave, declares, declares-all, has-body, function-enters, parameters-enter, as-derived, parameters-types, slots-left}

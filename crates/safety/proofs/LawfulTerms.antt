@@ -1,8 +1,6 @@
 -- Typed terms and actions are lawful, where the scopes describe the chain and the records keep to their limits. Assumes nothing.
-use mathlib.Core.Path.{_≡_, refl, sym, subst}
-use mathlib.Core.Bool.{true}
 use mathlib.Core.List.{List, [], _∷_}
-use Prim.Native.Nat.{ℕ, suc, _+_, _≤_, _<_}
+use Prim.Native.Nat.{ℕ, _<_}
 use native.Mathlib.Omega.{arith}
 use lib.ListN.{length}
 use Rattle.std.proofs.shelf.Tests.{leb-true}
@@ -11,13 +9,13 @@ use Rattle.language.specs.declared.values.ValueType.the-variants.{Void, Int, Bo
 use Rattle.table.specs.Tree.{Expression, Arguments, Statement, Statements, Block, ValueBlock, Final}
 use Rattle.table.specs.Layout.{Branches, Limited, LimitedAll, ofExpression, ofArguments, ofStatement, ofStatements, ofBlock, ofValueBlock, ofFinal}
 use Rattle.rules.specs.Resolved.{Term, Terms, Action, Actions, Ending}
-use Rattle.typing.specs.Scopes.{Env, Status, Named}
+use Rattle.typing.specs.Scopes.{Env, Status}
 use Rattle.typing.specs.Scopes.Status.{init}
 use Rattle.typing.specs.Scopes.Named.{variable, function}
 use Rattle.typing.specs.Rules.{HasType, Matches, Yields, Runs, RunsAll, RunsBlock, Ends, dropping}
 use Rattle.safety.specs.Lawful.{LawfulTerm, LawfulTerms, LawfulAction, LawfulActions, LawfulEnding}
-use Rattle.safety.proofs.Places.{At, at-below}
-use Rattle.safety.proofs.Worlds.{Kind, Shape}
+use Rattle.safety.proofs.Places.{at-below}
+use Rattle.safety.proofs.Worlds.{Shape}
 use Rattle.safety.proofs.Scoped.{Signature, Stands, Describes, Looks, looks, find-each}
 use Rattle.safety.proofs.Reading.{variable-slot, function-found}
 use Rattle.safety.proofs.Alike.{alike-runs, alike-all, alike-describes}

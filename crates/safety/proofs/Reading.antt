@@ -1,26 +1,26 @@
 -- Reading and setting a variable, and reaching the chain that a function was declared on. Assumes nothing.
-use mathlib.Core.Path.{_≡_, refl, sym, ap, subst, _∙_}
+use mathlib.Core.Path.{_≡_, refl, sym, ap, subst}
 use mathlib.Core.Bool.{Bool, true, false, cond}
 use mathlib.Core.List.{List, [], _∷_, _++_}
-use Prim.Native.Nat.{ℕ, zero, suc, _+_, _<_}
+use Prim.Native.Nat.{ℕ, zero, suc, _<_}
 use native.Mathlib.Omega.{arith}
 use lib.Dec.{eqb}
 use lib.ListN.{length, take, drop}
 use Rattle.std.specs.declared.option.Option.{Option}
-use Rattle.std.specs.declared.option.Option.the-variants.{Some, None}
+use Rattle.std.specs.declared.option.Option.the-variants.{Some}
 use Rattle.language.specs.declared.values.Value.{Value}
 use Rattle.language.specs.declared.values.ValueType.{ValueType}
 use Rattle.rules.specs.Evaluate.{Slots, slotValue, setSlot, behind, inFront, setVariable, variable as valueOf}
 use Rattle.rules.specs.Evaluate.{Env as Chain}
-use Rattle.typing.specs.Scopes.{Status, Named, Binding, Scope, Env, bind, find, initialised, setIn, isThere, set}
-use Rattle.typing.specs.Scopes.Status.{dec, init}
+use Rattle.typing.specs.Scopes.{Status, Named, Scope, Env, bind, find, initialised, setIn, isThere, set}
+use Rattle.typing.specs.Scopes.Status.{init}
 use Rattle.typing.specs.Scopes.Named.{variable, function}
 use Rattle.safety.specs.Safety.{Is}
 use Rattle.safety.proofs.Places.{At}
 use Rattle.safety.proofs.Worlds.{Kind, Shape, Fills, FillsFrame, FillsAll, Set, GrowsFrame, Grows, grows-refl}
 use Rattle.safety.proofs.Worlds.Kind.{kind}
-use Rattle.safety.proofs.Worlds.Fills.{unset, filled}
-use Rattle.safety.proofs.Worlds.FillsFrame.{noSlots, slot}
+use Rattle.safety.proofs.Worlds.Fills.{filled}
+use Rattle.safety.proofs.Worlds.FillsFrame.{slot}
 use Rattle.safety.proofs.Scoped.{Signature, Stands, Each, Describes, Marked, Sets, Looks, find-each, each-map, marked-grows}
 use Rattle.safety.proofs.Scoped.Signature.{signature}
 use Rattle.safety.proofs.Scoped.Looks.{inThis, further}

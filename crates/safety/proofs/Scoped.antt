@@ -1,29 +1,23 @@
 -- When scopes describe a chain of frames, and what lookup then finds in it. Assumes nothing.
 use mathlib.Core.Path.{_≡_, refl, sym, ap, subst, _∙_}
 use mathlib.Core.Bool.{Bool, true, false, cond}
-use mathlib.Core.List.{List, [], _∷_, _++_}
-use Prim.Native.Nat.{ℕ, zero, suc, _+_, _<_}
+use mathlib.Core.List.{List, [], _∷_}
+use Prim.Native.Nat.{ℕ, suc, _+_}
 use native.Mathlib.Numerals.{add-one}
 use native.Mathlib.Omega.{arith}
 use lib.Dec.{eqb}
-use lib.ListN.{length, drop}
 use Rattle.std.specs.declared.option.Option.{Option}
 use Rattle.std.specs.declared.option.Option.the-variants.{Some, None}
-use Rattle.language.specs.declared.values.Value.{Value}
 use Rattle.language.specs.declared.values.ValueType.{ValueType}
-use Rattle.rules.specs.Evaluate.{Slots, slotValue, setSlot, behind, inFront, setVariable, variable as valueOf}
+use Rattle.rules.specs.Evaluate.{Slots}
 use Rattle.rules.specs.Evaluate.{Env as Chain}
-use Rattle.typing.specs.Scopes.{Status, Named, Binding, Scope, Env, Found, bind, find, lookup, found, outward, orOutward, initialised, setIn, isThere, set}
-use Rattle.typing.specs.Scopes.Status.{dec, init}
+use Rattle.typing.specs.Scopes.{Status, Named, Scope, Env, Found, find, lookup, found, orOutward, set}
+use Rattle.typing.specs.Scopes.Status.{dec}
 use Rattle.typing.specs.Scopes.Named.{variable, function}
-use Rattle.safety.specs.Safety.{Is}
 use Rattle.safety.proofs.Places.{At}
-use Rattle.safety.proofs.Places.At.{here as atHere, there as atThere}
-use Rattle.safety.proofs.Worlds.{Kind, Shape, Fills, FillsFrame, FillsAll, Set, GrowsFrame, Grows, grows-refl}
+use Rattle.safety.proofs.Worlds.{Kind, Shape, Set, GrowsFrame, Grows}
 use Rattle.safety.proofs.Worlds.Kind.{kind}
-use Rattle.safety.proofs.Worlds.Fills.{unset, filled}
-use Rattle.safety.proofs.Worlds.FillsFrame.{noSlots, slot}
-use Rattle.safety.proofs.Worlds.Set.{here, there}
+use Rattle.safety.proofs.Worlds.FillsFrame.{slot}
 
 -- what is promised of a function that has a number: the shape of the chain that it is declared on, its parameters and its result
 pub data Signature : Type 0 where

@@ -1,22 +1,19 @@
 -- Typed terms and actions do not come to trouble, where calls do not. Assumes nothing.
-use mathlib.Core.Path.{_≡_, refl, sym, ap, subst, _∙_}
-use mathlib.Core.Bool.{Bool as Truths}
-use mathlib.Core.List.{List, [], _∷_, _++_}
+use mathlib.Core.Path.{sym, subst}
+use mathlib.Core.List.{List, [], _∷_}
 use Prim.Native.Nat.{ℕ, _<_}
-use lib.IntN.{ℤ}
-use lib.ListN.{length, take, drop}
+use lib.ListN.{take, drop}
 use Rattle.std.specs.declared.option.Option.{Option}
-use Rattle.std.specs.declared.option.Option.the-variants.{Some, None}
+use Rattle.std.specs.declared.option.Option.the-variants.{Some}
 use Rattle.language.specs.declared.values.Value.{Value}
-use Rattle.language.specs.declared.values.Value.the-variants.{Number, Truth}
 use Rattle.language.specs.declared.values.ValueType.{ValueType}
 use Rattle.language.specs.declared.values.ValueType.the-variants.{Void, Int, Bool}
 use Rattle.host.specs.Serves.{Serves}
 use Rattle.table.specs.Tree.{Expression, Arguments, Statement, Statements, Block, ValueBlock, Final}
 use Rattle.rules.specs.Resolved.{Term, Terms, Action, Actions, Ending}
 use Rattle.rules.specs.Evaluate.{Env as Chain}
-use Rattle.rules.specs.Evaluate.{Eval, Calls, andThen, evalTerm, evalTerms, evalAction, evalActions, evalEnding, readOf, assigned}
-use Rattle.typing.specs.Scopes.{Env, Status, Named}
+use Rattle.rules.specs.Evaluate.{Calls, andThen, evalTerm, evalTerms, evalAction, evalActions, evalEnding, readOf, assigned, backUnder}
+use Rattle.typing.specs.Scopes.{Env, set}
 use Rattle.typing.specs.Scopes.Status.{init}
 use Rattle.typing.specs.Scopes.Named.{variable, function}
 use Rattle.typing.specs.Rules.{HasType, Matches, Yields, Runs, RunsAll, RunsBlock, Ends, Valued, dropping}
@@ -67,7 +64,7 @@ module _ (S : Type 0) (ops : Serves S) (calls : Calls S) (sigs : List Signature)
   dropped Bool p r shape env s m f = fine-value _ Valued.bool f (λ v env′ s′ i g. Fine.done (g, sets-grows (g .1) m))
 
   -- a call, once its arguments are there
-  called : (h n : ℕ) (shape : Shape) (ts : List ValueType) (t : ValueType) (vs : List Value) (env : Chain) (s : S) → At sigs n (signature (drop h shape) ts t) → AreOf ts vs → FillsAll shape env → Fine (Gives t shape env) (Rattle.rules.specs.Evaluate.backUnder (take h env) (calls n vs (drop h env) s))
+  called : (h n : ℕ) (shape : Shape) (ts : List ValueType) (t : ValueType) (vs : List Value) (env : Chain) (s : S) → At sigs n (signature (drop h shape) ts t) → AreOf ts vs → FillsAll shape env → Fine (Gives t shape env) (backUnder (take h env) (calls n vs (drop h env) s))
   called h n shape ts t vs env s a vs-are f = fine-back (take h env) (able n (drop h shape) ts t vs (drop h env) s a vs-are (fills-drop h f)) (λ v left g. (g .0, (fills-back h left f (g .1 .0), grows-back h env left (g .1 .1))))
 
   mutual
@@ -117,7 +114,7 @@ module _ (S : Type 0) (ops : Serves S) (calls : Calls S) (sigs : List Signature)
         fine-value _ v (term-fine a shape env s d f m)
         (λ w env₁ s₁ i g.
         let r = variable-set (looks x Γ h (variable status t k) e) d (g .0) (sets-grows (g .1) m) i in
-        subst (λ o. Fine (Leaves (Rattle.typing.specs.Scopes.set x Γ) shape env) (assigned o s₁)) (sym (r .1)) (Fine.done ((r .2, grows-trans (g .1) (r .3)), r .4)))
+        subst (λ o. Fine (Leaves (set x Γ) shape env) (assigned o s₁)) (sym (r .1)) (Fine.done ((r .2, grows-trans (g .1) (r .3)), r .4)))
     action-fine (Runs.funStm {p = p} {t = t} {r = r} a) shape env s d f m = dropped t p r shape env s m (term-fine a shape env s d f m)
     action-fine (Runs.ifStm Γ′ c a) shape env s d f m =
         fine-truth _ (term-fine c shape env s d f m)

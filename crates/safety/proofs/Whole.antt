@@ -1,7 +1,7 @@
 -- Typed programs do not come to trouble. Assumes nothing.
-use mathlib.Core.Path.{_≡_, refl, sym, ap, subst, _∙_}
-use mathlib.Core.List.{List, [], _∷_, _++_, map}
-use Prim.Native.Nat.{ℕ, _+_}
+use mathlib.Core.Path.{sym, subst, _∙_}
+use mathlib.Core.List.{List, [], _∷_}
+use Prim.Native.Nat.{ℕ}
 use native.Mathlib.Nat.{zero-add}
 use lib.ListN.{length, replicate}
 use Rattle.std.proofs.shelf.Lists.{append-nil}
@@ -11,15 +11,12 @@ use Rattle.language.specs.declared.values.Value.{Value}
 use Rattle.language.specs.declared.values.ValueType.{ValueType}
 use Rattle.host.specs.Meaning.{Meaning}
 use Rattle.host.specs.Serves.{Serves, byMeaning}
-use Rattle.table.specs.Tree.{Program}
 use Rattle.table.specs.Tree.Declarations.{declaration}
-use Rattle.rules.specs.Resolved.{Rules, Function, Actions, Ending, all}
-use Rattle.rules.specs.Resolved.Actions.{noActions}
+use Rattle.rules.specs.Resolved.{Function, Actions, Ending, all}
 use Rattle.rules.specs.Evaluate.{Env as Chain}
-use Rattle.rules.specs.Evaluate.{Eval, andThen, callsTo, evalActions, evalEnding, evaluated, typed}
-use Rattle.typing.specs.Scopes.{Env}
+use Rattle.rules.specs.Evaluate.{Eval, andThen, callsTo, evalActions, evalEnding, typed}
 use Rattle.typing.specs.Rules.{RunsAll, Ends, IsTyped}
-use Rattle.safety.specs.Safety.{Is, Keeps, SafeWith, Safe}
+use Rattle.safety.specs.Safety.{Keeps, SafeWith, Safe}
 use Rattle.safety.proofs.Places.{segment-all}
 use Rattle.safety.proofs.Worlds.{Kind, Shape, FillsAll}
 use Rattle.safety.proofs.Scoped.{Signature, Describes, Sets}

@@ -1,13 +1,13 @@
 -- What a chain of frames is like, whatever has been evaluated so far. Assumes nothing.
-use mathlib.Core.List.{List, [], _∷_, _++_}
-use Prim.Native.Nat.{ℕ, zero, suc}
+use mathlib.Core.List.{List, [], _∷_}
+use Prim.Native.Nat.{ℕ, suc}
 use Rattle.std.specs.declared.option.Option.{Option}
 use Rattle.std.specs.declared.option.Option.the-variants.{Some, None}
 use Rattle.language.specs.declared.values.Value.{Value}
 use Rattle.language.specs.declared.values.ValueType.{ValueType}
 use Rattle.rules.specs.Evaluate.{Slots, Env}
 use Rattle.typing.specs.Scopes.{Status}
-use Rattle.typing.specs.Scopes.Status.{dec, init}
+use Rattle.typing.specs.Scopes.Status.{dec}
 use Rattle.safety.specs.Safety.{Is}
 
 -- a slot of a frame: set from the start or not, and its type
