@@ -1,0 +1,12 @@
+pub mod Places
+pub mod Worlds
+pub mod Scoped
+pub mod Reading
+pub mod Alike
+pub mod Fine
+pub mod Terms
+pub mod Calling
+pub mod Declaring
+pub mod Whole
+pub mod LawfulTerms
+pub mod Lawful
