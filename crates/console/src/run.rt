@@ -1,12 +1,12 @@
 // Inputs, line by line.
-use script::command::Command;
-use script::line::parse;
-use script::problem::Problem;
-use script::problem::ProblemDisplay;
 use crate::reading::Input;
 use crate::reading::read_line;
 use crate::session::Session;
 use crate::steps::trace;
+use script::command::Command;
+use script::line::parse;
+use script::problem::Problem;
+use script::problem::ProblemDisplay;
 use std::env;
 use std::error::AnyError;
 use std::fs::File;
@@ -63,10 +63,7 @@ fn answer_all<B: BufRead>(
 
 fn answer_file(rt: &LibcRuntime, session: &mut Session, path: &str) -> Result<(), AnyError> {
     match File::open(rt, path) {
-        Err(error) => {
-            eprintln!(rt, "tariff: cannot read {path}: {error}")?;
-            Err("a file could not be read".into())
-        }
+        Err(error) => Err(format!(rt.alloc(), "cannot read {path}: {error}")?.into()),
         Ok(file) => answer_all(rt, session, &mut BufReader::new(file)),
     }
 }

@@ -86,13 +86,7 @@ impl Session {
 
     fn play_on<H: Host>(&mut self, host: &mut H, calls: &[Call]) -> Answer {
         let mut answers = [Answer::Cleared];
-        self.record.play(
-            &mut self.buffer,
-            &mut self.cells,
-            host,
-            calls,
-            &mut answers,
-        );
+        self.record.play(&mut self.buffer, &mut self.cells, host, calls, &mut answers);
         answers[0]
     }
 
@@ -129,7 +123,12 @@ impl Session {
         Ok(format!(self.heap, "area: {words} words, {cells} cells")?)
     }
 
-    fn make_record(&mut self, accounts: u32, lines: u32, words: &[u32]) -> Result<String, AllocError> {
+    fn make_record(
+        &mut self,
+        accounts: u32,
+        lines: u32,
+        words: &[u32],
+    ) -> Result<String, AllocError> {
         match check(words, accounts, lines) {
             Err(fault) => refusal_text(self.heap, "record", fault),
             Ok(checked) => {

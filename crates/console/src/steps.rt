@@ -65,10 +65,12 @@ pub fn trace(rt: &LibcRuntime, session: &mut Session, most: u32) -> Result<(), A
     let mut steps: u32 = 0;
     for _ in 0..most {
         match answer {
-            Answer::Continued(Ran {
-                steps: _,
-                outcome: Outcome::Paused,
-            }) => {}
+            Answer::Continued(
+                Ran {
+                    steps: _,
+                    outcome: Outcome::Paused,
+                },
+            ) => {}
             _ => break,
         }
         match step(rt, session)? {
