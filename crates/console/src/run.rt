@@ -63,10 +63,7 @@ fn answer_all<B: BufRead>(
 
 fn answer_file(rt: &LibcRuntime, session: &mut Session, path: &str) -> Result<(), AnyError> {
     match File::open(rt, path) {
-        Err(error) => {
-            eprintln!(rt, "tariff: cannot read {path}: {error}")?;
-            Err("a file could not be read".into())
-        }
+        Err(error) => Err(format!(rt.alloc(), "cannot read {path}: {error}")?.into()),
         Ok(file) => answer_all(rt, session, &mut BufReader::new(file)),
     }
 }

@@ -28,13 +28,13 @@ impl Problem {
             Problem::NotAvailable => "this command is not available in this version",
             Problem::MissingNumber => "a number is missing",
             Problem::TooManyWords => "there are too many words",
-            Problem::NotNumber => "a word is not a number of the right kind",
+            Problem::NotNumber => "a word is not a number that may stand there",
             Problem::TooLarge => "a number is too large",
             Problem::NotFlag => "a flag is 0 or 1",
             Problem::LargeArea => "an area has at most 1000000 words and 1000000 cells",
             Problem::LongLine => "the line is too long",
-            Problem::NoWorksheet => "a row needs a worksheet, and there is none",
-            Problem::NoHost => "a run needs a host, and there is none",
+            Problem::NoWorksheet => "there is no worksheet to set a row in",
+            Problem::NoHost => "there is no host: make a record or a worksheet first",
             Problem::NoMemory => "there is not enough memory",
         }
     }

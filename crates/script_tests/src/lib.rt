@@ -1,0 +1,5 @@
+// Lines of scripts, read.
+#[cfg(test)]
+mod lines;
+#[cfg(test)]
+mod numbers;
