@@ -1,0 +1,7 @@
+pub mod Bind
+pub mod Lay
+pub mod Sets
+pub mod Scopes
+pub mod Types
+pub mod Expressions
+pub mod Programs
