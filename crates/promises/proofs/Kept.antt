@@ -1,6 +1,6 @@
 -- The promises are kept. Assumes nothing.
 use mathlib.Core.Path.{_≡_, refl, sym, ap, subst, _∙_}
-use mathlib.Core.List.{List}
+use mathlib.Core.List.{List, [], _∷_}
 use mathlib.Core.Logic.{_⊎_, inl, inr}
 use Prim.Native.Nat.{ℕ, zero, suc, _+_, _*_, _≤_}
 use native.Mathlib.Nat.{zero-add}
@@ -22,7 +22,7 @@ use Rattle.machine.specs.declared.registers.Outcome.{Outcome}
 use Rattle.machine.specs.declared.registers.Outcome.the-variants.{Paused, Finished, Halted}
 use Rattle.stack.specs.Stack.{Stack, Went, next, ended, Run, run, step, thenRun, beginning}
 use Rattle.causes.proofs.Stops.{stopped-for-a-cause}
-use Rattle.replay.specs.Script.{Script, byScript, Standing}
+use Rattle.replay.specs.Script.{Script, byScript, Standing, standing, Piece, goOn, inPieces, allowances}
 use Rattle.replay.proofs.Runs.{pieces-are-one-script}
 use Rattle.rules.specs.Resolved.{Rules}
 use Rattle.rules.specs.Translate.{image, translated}
@@ -33,7 +33,7 @@ use Rattle.safety.proofs.Lawful.{lawful-where-typed}
 use Rattle.theory.specs.Lawful.{Lawful}
 use Rattle.theory.specs.Runs.{headerFor, runOf, Ended, OutOfRoom, EndsAs}
 use Rattle.theory.proofs.Runs.{ended-as, some-ends, finishes-as-evaluated, stops-as-evaluated}
-use Rattle.promises.specs.Promises.{Admitted, piecewise, Stands, NeverInTrouble, NamedEndings, ReachesEvaluation, EndsAsEvaluated, SomeAllowanceEndsIt}
+use Rattle.promises.specs.Promises.{Admitted, piecewise, lastHost, onwardHost, Stands, NeverInTrouble, NamedEndings, ReachesEvaluation, EndsAsEvaluated, SomeAllowanceEndsIt}
 use Rattle.promises.proofs.Fitting.{fit}
 
 -- an evaluation that keeps its promise is not in trouble, and no run that ended so is
@@ -106,16 +106,40 @@ module _ {S : Type 0} (ops : Serves S) (words : List ℕ) (header : Header) (lim
       by ih (Ok (ended v)) q e = let z : _≡_ {A = ℕ} 0 1 = cc in absurd (omega arith)
       by ih (Err x) q e = let same : x ≡ h = cc in (q ∙ ap Err same, cc)
 
+-- a run in pieces that paused used up all its allowances, and one that halted stands where a step of its last piece halts
+module _ (words : List ℕ) (header : Header) (limit : ℕ) where
+  pieces-paused : (pieces : List Piece) (t : Stack) → inPieces words header limit pieces t .outcome ≡ Paused → inPieces words header limit pieces t .steps ≡ allowances pieces
+  pieces-paused [] t e = refl
+  pieces-paused (p ∷ ps) t e =
+      by (pieces-paused ps) (run byMeaning words header limit (p .allowance) (p .host) t .outcome) refl e
+    where
+      by : ((t′ : Stack) → inPieces words header limit ps t′ .outcome ≡ Paused → inPieces words header limit ps t′ .steps ≡ allowances ps) → (o : Outcome) → run byMeaning words header limit (p .allowance) (p .host) t .outcome ≡ o → goOn (standing (run byMeaning words header limit (p .allowance) (p .host) t)) (inPieces words header limit ps) o .outcome ≡ Paused → goOn (standing (run byMeaning words header limit (p .allowance) (p .host) t)) (inPieces words header limit ps) o .steps ≡ p .allowance + allowances ps
+      by ih Paused o e = λ i. paused byMeaning words header limit (p .allowance) (p .host) t o i + ih (run byMeaning words header limit (p .allowance) (p .host) t .stack) e i
+      by ih (Finished v) o e = let z : _≡_ {A = ℕ} 0 1 = cc in absurd (omega arith)
+      by ih (Halted h k) o e = let z : _≡_ {A = ℕ} 0 1 = cc in absurd (omega arith)
+
+  pieces-halted : (pieces : List Piece) (m : Meaning) (t : Stack) (h : Halt) (k : ℕ) → inPieces words header limit pieces t .outcome ≡ Halted h k → (step byMeaning words header limit (lastHost words header limit m pieces t) (inPieces words header limit pieces t .stack) ≡ Err h) × (k ≡ inPieces words header limit pieces t .stack .counter)
+  pieces-halted [] m t h k e = let z : _≡_ {A = ℕ} 0 1 = cc in absurd (omega arith)
+  pieces-halted (p ∷ ps) m t h k e =
+      by (λ m′ t′. pieces-halted ps m′ t′ h k) (run byMeaning words header limit (p .allowance) (p .host) t .outcome) refl e
+    where
+      by : ((m′ : Meaning) (t′ : Stack) → inPieces words header limit ps t′ .outcome ≡ Halted h k → (step byMeaning words header limit (lastHost words header limit m′ ps t′) (inPieces words header limit ps t′ .stack) ≡ Err h) × (k ≡ inPieces words header limit ps t′ .stack .counter)) → (o : Outcome) → run byMeaning words header limit (p .allowance) (p .host) t .outcome ≡ o → goOn (standing (run byMeaning words header limit (p .allowance) (p .host) t)) (inPieces words header limit ps) o .outcome ≡ Halted h k → (step byMeaning words header limit (onwardHost (run byMeaning words header limit (p .allowance) (p .host) t) (lastHost words header limit (run byMeaning words header limit (p .allowance) (p .host) t .host) ps) o) (goOn (standing (run byMeaning words header limit (p .allowance) (p .host) t)) (inPieces words header limit ps) o .stack) ≡ Err h) × (k ≡ goOn (standing (run byMeaning words header limit (p .allowance) (p .host) t)) (inPieces words header limit ps) o .stack .counter)
+      by ih Paused o e = ih (run byMeaning words header limit (p .allowance) (p .host) t .host) (run byMeaning words header limit (p .allowance) (p .host) t .stack) e
+      by ih (Finished v) o e = let z : _≡_ {A = ℕ} 0 1 = cc in absurd (omega arith)
+      by ih (Halted x n) o e = halted byMeaning words header limit (p .allowance) (p .host) t h k e
+
 pub named-endings : NamedEndings
-named-endings t r a cells allowance m = by (runOf byMeaning r cells allowance m .outcome) refl
+named-endings t r a cells pieces unseen = by (piecewise r cells pieces .outcome) refl
   where
-    by : (o : Outcome) → runOf byMeaning r cells allowance m .outcome ≡ o → Stands t r cells allowance (runOf byMeaning r cells allowance m) o
-    by Paused e = paused byMeaning (image r) (headerFor (translated r) (r .result)) cells allowance m (beginning (r .others)) e
-    by (Finished v) e = typed-end byMeaning t r a cells m allowance v e
+    by : (o : Outcome) → piecewise r cells pieces .outcome ≡ o → Stands t r cells (allowances pieces) (piecewise r cells pieces) (lastHost (image r) (headerFor (translated r) (r .result)) cells unseen pieces (beginning (r .others))) o
+    by Paused e = pieces-paused (image r) (headerFor (translated r) (r .result)) cells pieces (beginning (r .others)) e
+    by (Finished v) e =
+        let one = pieces-are-one-script (image r) (headerFor (translated r) (r .result)) cells pieces (beginning (r .others)) in
+        typed-end byScript t r a cells (one .0) _ v (sym (ap (λ w. w .outcome) (one .1)) ∙ e)
     by (Halted (Stopped c) k) e =
-        let h = halted byMeaning (image r) (headerFor (translated r) (r .result)) cells allowance m (beginning (r .others)) (Stopped c) k e in
-        (h .1, stopped-for-a-cause (image r) (headerFor (translated r) (r .result)) cells (runOf byMeaning r cells allowance m .host) (runOf byMeaning r cells allowance m .stack) c (h .0))
-    by (Halted (Troubled x) k) e = no-trouble byMeaning t r a cells m allowance x k e
+        let h = pieces-halted (image r) (headerFor (translated r) (r .result)) cells pieces unseen (beginning (r .others)) (Stopped c) k e in
+        (h .1, stopped-for-a-cause (image r) (headerFor (translated r) (r .result)) cells (lastHost (image r) (headerFor (translated r) (r .result)) cells unseen pieces (beginning (r .others))) (piecewise r cells pieces .stack) c (h .0))
+    by (Halted (Troubled x) k) e = never-in-trouble t r a cells pieces x k e
 
 pub reaches-evaluation : ReachesEvaluation
 reaches-evaluation t r a cells depth m = (

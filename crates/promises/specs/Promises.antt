@@ -1,6 +1,6 @@
 -- What holds of every run of the image of a program that the typing rules admit, in whatever pieces and with whatever hosts it is run. Assumes nothing.
 use mathlib.Core.Path.{_≡_}
-use mathlib.Core.List.{List}
+use mathlib.Core.List.{List, [], _∷_}
 use mathlib.Core.Logic.{_⊎_}
 use Prim.Native.Nat.{ℕ, _*_, _≤_}
 use Rattle.std.specs.declared.option.Option.{Option}
@@ -12,11 +12,12 @@ use Rattle.language.specs.declared.values.Value.{Value}
 use Rattle.language.specs.declared.values.ValueType.{ValueType}
 use Rattle.host.specs.Meaning.{Meaning}
 use Rattle.host.specs.Serves.{byMeaning}
+use Rattle.image.specs.declared.instruction.Header.{Header}
 use Rattle.image.specs.declared.instruction.Instruction.{Instruction}
 use Rattle.image.specs.Fetch.{fetched}
 use Rattle.machine.specs.declared.registers.Outcome.{Outcome}
 use Rattle.machine.specs.declared.registers.Outcome.the-variants.{Paused, Finished, Halted}
-use Rattle.stack.specs.Stack.{Stack, Run, beginning}
+use Rattle.stack.specs.Stack.{Stack, Run, beginning, run}
 use Rattle.causes.specs.Causes.{Holds}
 use Rattle.replay.specs.Script.{Piece, Standing, inPieces, allowances}
 use Rattle.table.specs.Tree.{Program}
@@ -51,18 +52,33 @@ abbrev pub CauseHeld : Rules → ℕ → Stop → Meaning → Stack → Type 0
 CauseHeld r cells c m at =
     (i : Instruction) × (fetched (image r) (headerFor (translated r) (r .result)) (at .counter) ≡ Ok i) × Holds m cells i (at .cells) c
 
--- how a run stands after an allowance: it has used it up; or it has ended with what its type promises; or it has stopped for a cause whose condition holds in the machine and the host where it stopped
-abbrev pub Stands : ValueType → Rules → ℕ → ℕ → Run Meaning → Outcome → Type 0
-Stands t r cells allowance q Paused = q .steps ≡ allowance
-Stands t r cells allowance q (Finished v) = Is t v
-Stands t r cells allowance q (Halted (Stopped c) k) = (k ≡ q .stack .counter) × CauseHeld r cells c (q .host) (q .stack)
-Stands t r cells allowance q (Halted (Troubled x) k) = ⊥
+-- the host of the piece in which a run in pieces stands, after the steps of that piece
+abbrev pub onwardHost : Run Meaning → (Stack → Meaning) → Outcome → Meaning
+onwardHost q further Paused = further (q .stack)
+onwardHost q further (Finished v) = q .host
+onwardHost q further (Halted h k) = q .host
 
--- Every run stands so, after any allowance
+abbrev pub lastHost : List ℕ → Header → ℕ → Meaning → List Piece → Stack → Meaning
+lastHost words header limit m [] t = m
+lastHost words header limit m (p ∷ ps) t =
+    onwardHost (run byMeaning words header limit (p .allowance) (p .host) t)
+    (lastHost words header limit (run byMeaning words header limit (p .allowance) (p .host) t .host) ps)
+    (run byMeaning words header limit (p .allowance) (p .host) t .outcome)
+
+-- how a run stands: it has used up all its allowances; or it has ended with what its type promises; or it has stopped for a cause whose condition holds in the machine and the host where it stopped
+abbrev pub Stands : ValueType → Rules → ℕ → ℕ → Standing → Meaning → Outcome → Type 0
+Stands t r cells allowed q m Paused = q .steps ≡ allowed
+Stands t r cells allowed q m (Finished v) = Is t v
+Stands t r cells allowed q m (Halted (Stopped c) k) = (k ≡ q .stack .counter) × CauseHeld r cells c m (q .stack)
+Stands t r cells allowed q m (Halted (Troubled x) k) = ⊥
+
+-- Every run stands so after its pieces, whatever host and allowance each piece has. (Before its first piece it has a host that no step has seen)
 abbrev pub NamedEndings : Type 0
 NamedEndings =
-    (t : ValueType) (r : Rules) → Admitted t r → (cells allowance : ℕ) (m : Meaning)
-    → Stands t r cells allowance (runOf byMeaning r cells allowance m) (runOf byMeaning r cells allowance m .outcome)
+    (t : ValueType) (r : Rules) → Admitted t r → (cells : ℕ) (pieces : List Piece) (unseen : Meaning)
+    → Stands t r cells (allowances pieces) (piecewise r cells pieces)
+    (lastHost (image r) (headerFor (translated r) (r .result)) cells unseen pieces (beginning (r .others)))
+    (piecewise r cells pieces .outcome)
 
 -- If evaluation ends, some allowance brings the run to that ending, with the same host, or out of room
 abbrev pub ReachesEvaluation : Type 0
