@@ -1,11 +1,7 @@
-// The calls on a work area, run: every refusal, every order of two, and what they leave.
+// Tests of the work area's calls: each refusal, each order of two that hold at once, and what a call leaves untouched.
 #[cfg(test)]
-mod areas;
+mod calls;
 #[cfg(test)]
-mod begins;
+mod refusals;
 #[cfg(test)]
-mod brings;
-#[cfg(test)]
-mod plays;
-#[cfg(test)]
-mod runs;
+mod shared;
