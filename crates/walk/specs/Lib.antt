@@ -3,5 +3,7 @@ pub mod Lay
 pub mod Sets
 pub mod Scopes
 pub mod Types
+pub mod Known
 pub mod Expressions
+pub mod Walked
 pub mod Programs

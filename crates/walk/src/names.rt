@@ -1,11 +1,11 @@
 // What the names in open scopes stand for.
 use language::values::ValueType;
 
-// What a name stands for: a variable with its type and slot, a function with its node and the number of its entry's code, or one of the host's three functions.
+// What a name stands for: a variable with its type and slot; a function with its result type, the node where its parameters begin and the number of its entry's code; or one of the host's three functions.
 #[derive(Clone, Copy)]
 pub enum What {
     Variable(ValueType, u8),
-    Function(u32, u32),
+    Function(ValueType, usize, u32),
     Amount,
     Flag,
     Post,
@@ -21,7 +21,7 @@ pub struct Entry {
 
 // A variable that was found: its type, the level of its frame and its slot there.
 #[derive(Clone, Copy)]
-pub struct Variable {
+pub(crate) struct Variable {
     pub typed: ValueType,
     pub level: u8,
     pub slot: u8,
@@ -29,8 +29,8 @@ pub struct Variable {
 
 // The parameters that are still to come in a call: those from a node on, or so many ints.
 #[derive(Clone, Copy)]
-pub enum Parameters {
-    Listed(u32),
+pub(crate) enum Parameters {
+    Listed(usize),
     NoInts,
     OneInt,
     TwoInts,
@@ -38,7 +38,7 @@ pub enum Parameters {
 
 // How the arguments so far went with the parameters: those to come, whether there was an argument too many, whether all types were right.
 #[derive(Clone, Copy)]
-pub struct Tally {
+pub(crate) struct Tally {
     pub left: Parameters,
     pub surplus: bool,
     pub matched: bool,
