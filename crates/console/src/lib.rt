@@ -4,3 +4,4 @@ pub mod run;
 mod session;
 mod steps;
 mod texts;
+mod traced;

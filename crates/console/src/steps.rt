@@ -1,6 +1,8 @@
 // Runs shown step by step.
 use crate::session::Session;
 use crate::texts::answer_text;
+use crate::traced::instruction_text;
+use crate::traced::working_text;
 use engine::call::Answer;
 use engine::call::Call;
 use engine::record::Loaded;
@@ -10,8 +12,6 @@ use machine::registers::Machine;
 use machine::registers::Outcome;
 use machine::registers::Ran;
 use std::error::AnyError;
-use trace::instruction_text;
-use trace::working_text;
 
 // How a run stands at a step.
 #[derive(Clone, Copy)]

@@ -1,11 +1,11 @@
 // Answers as text.
+use crate::traced::outcome_text;
 use engine::call::Answer;
 use engine::record::Stage;
 use language::faults::Fault;
 use language::faults::Layer;
 use std::alloc::AllocError;
 use std::alloc::Global;
-use trace::outcome_text;
 
 fn layer_name(layer: Layer) -> &'static str {
     match layer {

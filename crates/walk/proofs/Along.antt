@@ -21,10 +21,10 @@ pub record ArgumentsSoFar (table : List Node) (entries : List Entry) (level : �
   pub grows : before .len ≤ after .len
   pub room : after .len + 3 * from ≤ before .len + 3 * at
   pub onward :
-    (es : Arguments) → LaysAll (ofArguments es) table from stop →
-    (fs : Arguments) × LaysAll (ofArguments fs) table at stop ×
-    (walkArguments (seen table entries level) es (tallyOf table first) (flags .set) (live before) ≡
-    walkArguments (seen table entries level) fs (tallyOf table tally) (flags .set) (live after))
+      (es : Arguments) → LaysAll (ofArguments es) table from stop →
+      (fs : Arguments) × LaysAll (ofArguments fs) table at stop ×
+      (walkArguments (seen table entries level) es (tallyOf table first) (flags .set) (live before) ≡
+      walkArguments (seen table entries level) fs (tallyOf table tally) (flags .set) (live after))
 
 -- the statements from the first on come to what those from here on come to, with what is set and the code so far
 pub record RowSoFar (table : List Node) (entries : List Entry) (level : ℕ) (flags : Flags) (before : Code) (from stop at : ℕ) (now : Flags) (after : Code) : Type 0 where
@@ -33,6 +33,6 @@ pub record RowSoFar (table : List Node) (entries : List Entry) (level : ℕ) (fl
   pub grows : before .len ≤ after .len
   pub room : after .len + 3 * from ≤ before .len + 3 * at
   pub onward :
-    (ss : Statements) (f : Final) → LaysAll (ofStatements ss (ofFinal f)) table from stop →
-    (rs : Statements) × LaysAll (ofStatements rs (ofFinal f)) table at stop ×
-    (walkStatements (seen table entries level) ss (flags .set) (live before) ≡ walkStatements (seen table entries level) rs (now .set) (live after))
+      (ss : Statements) (f : Final) → LaysAll (ofStatements ss (ofFinal f)) table from stop →
+      (rs : Statements) × LaysAll (ofStatements rs (ofFinal f)) table at stop ×
+      (walkStatements (seen table entries level) ss (flags .set) (live before) ≡ walkStatements (seen table entries level) rs (now .set) (live after))

@@ -17,7 +17,10 @@ impl Code {
         ensures length { λ r. ⌜ r .len ≡ 0 ⌝ }
     {
         Code {
-            instrs: [Instr { code: 0, operand: 0 }; 12_288],
+            instrs: [Instr {
+                code: 0,
+                operand: 0,
+            }; 12_288],
             len: 0,
         }
     }

@@ -63,7 +63,12 @@ impl Tally {
     }
 
     // After the last argument: first their number, then their types.
-    pub(crate) fn judge(self, nodes: &[Node], place: u32, result: ValueType) -> Result<ValueType, Fault>
+    pub(crate) fn judge(
+        self,
+        nodes: &[Node],
+        place: u32,
+        result: ValueType,
+    ) -> Result<ValueType, Fault>
         ensures { λ r. ⌜ r ≡ judged place (tallyOf (now (nodes .entry)) self) result ⌝ }
     {
         let missing = match next_parameter(nodes, self.left) {

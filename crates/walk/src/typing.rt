@@ -66,7 +66,12 @@ fn type_made(operator: Operator) -> ValueType
 }
 
 // The type of an operation, by the number of its operator.
-pub(crate) fn operation_type(place: u32, number: u32, left: ValueType, right: ValueType) -> Result<ValueType, Fault>
+pub(crate) fn operation_type(
+    place: u32,
+    number: u32,
+    left: ValueType,
+    right: ValueType,
+) -> Result<ValueType, Fault>
     ensures { λ r. ⌜ r ≡ operationAt place (operatorAt number) left right ⌝ }
 {
     match Operator::from_number(number) {
@@ -93,7 +98,12 @@ pub(crate) fn negation_type(place: u32, operand: ValueType) -> Result<ValueType,
 }
 
 // The type of an if with a value.
-pub(crate) fn choice_type(place: u32, condition: ValueType, first: ValueType, second: ValueType) -> Result<ValueType, Fault>
+pub(crate) fn choice_type(
+    place: u32,
+    condition: ValueType,
+    first: ValueType,
+    second: ValueType,
+) -> Result<ValueType, Fault>
     ensures { λ r. ⌜ r ≡ choiceType place condition first second ⌝ }
 {
     if same(condition, ValueType::Bool) & same(first, second) {

@@ -25,7 +25,13 @@ use table::kinds::Kind;
 use table::nodes::Node;
 
 // A read: declared, a variable, set.
-fn read(names: &[Entry], level: u8, set: &Flags, code: &mut Code, node: Node) -> Result<ValueType, Fault>
+fn read(
+    names: &[Entry],
+    level: u8,
+    set: &Flags,
+    code: &mut Code,
+    node: Node,
+) -> Result<ValueType, Fault>
     requires few { ⌜ length (now names) ≤ 255 ⌝ }
     requires room { ⌜ now code .len < 12288 ⌝ }
     ensures answer { λ r. ⌜ GaveRead (now (names .entry)) level (now (set .entry)) (now (code .entry)) node r (now (code .exit)) ⌝ }
@@ -40,7 +46,14 @@ fn read(names: &[Entry], level: u8, set: &Flags, code: &mut Code, node: Node) ->
 }
 
 // A not: its operand, then 15.
-fn negation(nodes: &[Node], names: &[Entry], level: u8, set: &Flags, code: &mut Code, i: usize) -> Result<ValueType, Fault>
+fn negation(
+    nodes: &[Node],
+    names: &[Entry],
+    level: u8,
+    set: &Flags,
+    code: &mut Code,
+    i: usize,
+) -> Result<ValueType, Fault>
     requires fits { ⌜ Fits (now nodes) (now names) (now code .len) i ⌝ }
     requires tree { ⌜ HasNot (now nodes) i ⌝ }
     ensures answer { λ r. ⌜ GaveNot (now (nodes .entry)) (now (names .entry)) level (now (set .entry)) (now (code .entry)) i r (now (code .exit)) ⌝ }
@@ -52,7 +65,14 @@ fn negation(nodes: &[Node], names: &[Entry], level: u8, set: &Flags, code: &mut 
 }
 
 // An operator: its operands, then 15.
-fn operation(nodes: &[Node], names: &[Entry], level: u8, set: &Flags, code: &mut Code, i: usize) -> Result<ValueType, Fault>
+fn operation(
+    nodes: &[Node],
+    names: &[Entry],
+    level: u8,
+    set: &Flags,
+    code: &mut Code,
+    i: usize,
+) -> Result<ValueType, Fault>
     requires fits { ⌜ Fits (now nodes) (now names) (now code .len) i ⌝ }
     requires tree { ⌜ HasOperation (now nodes) i ⌝ }
     ensures answer { λ r. ⌜ GaveOperation (now (nodes .entry)) (now (names .entry)) level (now (set .entry)) (now (code .entry)) i r (now (code .exit)) ⌝ }
@@ -67,7 +87,14 @@ fn operation(nodes: &[Node], names: &[Entry], level: u8, set: &Flags, code: &mut
 }
 
 // An if with a value: condition and both value blocks, then one 15.
-fn choice(nodes: &[Node], names: &[Entry], level: u8, set: &Flags, code: &mut Code, i: usize) -> Result<ValueType, Fault>
+fn choice(
+    nodes: &[Node],
+    names: &[Entry],
+    level: u8,
+    set: &Flags,
+    code: &mut Code,
+    i: usize,
+) -> Result<ValueType, Fault>
     requires fits { ⌜ Fits (now nodes) (now names) (now code .len) i ⌝ }
     requires tree { ⌜ HasChoice (now nodes) i ⌝ }
     ensures answer { λ r. ⌜ GaveChoice (now (nodes .entry)) (now (names .entry)) level (now (set .entry)) (now (code .entry)) i r (now (code .exit)) ⌝ }
@@ -88,7 +115,14 @@ fn choice(nodes: &[Node], names: &[Entry], level: u8, set: &Flags, code: &mut Co
 }
 
 // A value block: its statements, then its expression; what it sets is forgotten.
-fn value_block(nodes: &[Node], names: &[Entry], level: u8, set: &Flags, code: &mut Code, i: usize) -> Result<ValueType, Fault>
+fn value_block(
+    nodes: &[Node],
+    names: &[Entry],
+    level: u8,
+    set: &Flags,
+    code: &mut Code,
+    i: usize,
+) -> Result<ValueType, Fault>
     requires fits { ⌜ Fits (now nodes) (now names) (now code .len) i ⌝ }
     requires tree { ⌜ HasValueBlock (now nodes) i ⌝ }
     ensures answer { λ r. ⌜ GaveValueBlock (now (nodes .entry)) (now (names .entry)) level (now (set .entry)) (now (code .entry)) i r (now (code .exit)) ⌝ }
@@ -100,7 +134,16 @@ fn value_block(nodes: &[Node], names: &[Entry], level: u8, set: &Flags, code: &m
 }
 
 // The arguments of a call, each held against its parameter.
-fn arguments(nodes: &[Node], names: &[Entry], level: u8, set: &Flags, code: &mut Code, from: usize, stop: usize, left: Parameters) -> Result<Tally, Fault>
+fn arguments(
+    nodes: &[Node],
+    names: &[Entry],
+    level: u8,
+    set: &Flags,
+    code: &mut Code,
+    from: usize,
+    stop: usize,
+    left: Parameters,
+) -> Result<Tally, Fault>
     requires fits { ⌜ Fits (now nodes) (now names) (now code .len) from ⌝ }
     requires tree { ⌜ HasArguments (now nodes) from stop ⌝ }
     requires inside { ⌜ stop ≤ length (now nodes) ⌝ }
@@ -122,7 +165,14 @@ fn arguments(nodes: &[Node], names: &[Entry], level: u8, set: &Flags, code: &mut
 }
 
 // A call of either kind: 13 and 14, its arguments, then 16 and 15.
-fn invoke(nodes: &[Node], names: &[Entry], level: u8, set: &Flags, code: &mut Code, i: usize) -> Result<ValueType, Fault>
+fn invoke(
+    nodes: &[Node],
+    names: &[Entry],
+    level: u8,
+    set: &Flags,
+    code: &mut Code,
+    i: usize,
+) -> Result<ValueType, Fault>
     requires fits { ⌜ Fits (now nodes) (now names) (now code .len) i ⌝ }
     requires tree { ⌜ HasCall (now nodes) i ⌝ }
     ensures answer { λ r. ⌜ GaveCall (now (nodes .entry)) (now (names .entry)) level (now (set .entry)) (now (code .entry)) i r (now (code .exit)) ⌝ }
@@ -134,13 +184,29 @@ fn invoke(nodes: &[Node], names: &[Entry], level: u8, set: &Flags, code: &mut Co
     entry.what.callable(node.place)?;
     entry.what.open(level, entry.level, code);
     let stop = node.end as usize;
-    let tally = arguments(nodes, names, level, set, code, i + 1, stop, entry.what.parameters())?;
+    let tally = arguments(
+        nodes,
+        names,
+        level,
+        set,
+        code,
+        i + 1,
+        stop,
+        entry.what.parameters(),
+    )?;
     entry.what.close(code);
     tally.judge(nodes, node.place, entry.what.result())
 }
 
 // An expression.
-pub fn expression(nodes: &[Node], names: &[Entry], level: u8, set: &Flags, code: &mut Code, i: usize) -> Result<ValueType, Fault>
+pub fn expression(
+    nodes: &[Node],
+    names: &[Entry],
+    level: u8,
+    set: &Flags,
+    code: &mut Code,
+    i: usize,
+) -> Result<ValueType, Fault>
     requires fits { ⌜ Fits (now nodes) (now names) (now code .len) i ⌝ }
     requires tree { ⌜ HasExpression (now nodes) i ⌝ }
     ensures answer { λ r. ⌜ GaveExpression (now (nodes .entry)) (now (names .entry)) level (now (set .entry)) (now (code .entry)) i r (now (code .exit)) ⌝ }
@@ -178,7 +244,14 @@ pub fn expression(nodes: &[Node], names: &[Entry], level: u8, set: &Flags, code:
 }
 
 // An assignment: 13 and 14, its expression, 15; only then is its variable set.
-fn assignment(nodes: &[Node], names: &[Entry], level: u8, set: &Flags, code: &mut Code, i: usize) -> Result<Flags, Fault>
+fn assignment(
+    nodes: &[Node],
+    names: &[Entry],
+    level: u8,
+    set: &Flags,
+    code: &mut Code,
+    i: usize,
+) -> Result<Flags, Fault>
     requires fits { ⌜ Fits (now nodes) (now names) (now code .len) i ⌝ }
     requires tree { ⌜ HasAssignment (now nodes) i ⌝ }
     ensures answer { λ r. ⌜ GaveAssignment (now (nodes .entry)) (now (names .entry)) level (now (set .entry)) (now (code .entry)) i r (now (code .exit)) ⌝ }
@@ -197,7 +270,14 @@ fn assignment(nodes: &[Node], names: &[Entry], level: u8, set: &Flags, code: &mu
 }
 
 // A call that stands alone: a result is dropped.
-fn call_statement(nodes: &[Node], names: &[Entry], level: u8, set: &Flags, code: &mut Code, i: usize) -> Result<Flags, Fault>
+fn call_statement(
+    nodes: &[Node],
+    names: &[Entry],
+    level: u8,
+    set: &Flags,
+    code: &mut Code,
+    i: usize,
+) -> Result<Flags, Fault>
     requires fits { ⌜ Fits (now nodes) (now names) (now code .len) i ⌝ }
     requires tree { ⌜ HasCallStatement (now nodes) i ⌝ }
     ensures answer { λ r. ⌜ GaveCallStatement (now (nodes .entry)) (now (names .entry)) level (now (set .entry)) (now (code .entry)) i r (now (code .exit)) ⌝ }
@@ -209,7 +289,14 @@ fn call_statement(nodes: &[Node], names: &[Entry], level: u8, set: &Flags, code:
 }
 
 // An if with no else: what was set before is set.
-fn if_then(nodes: &[Node], names: &[Entry], level: u8, set: &Flags, code: &mut Code, i: usize) -> Result<Flags, Fault>
+fn if_then(
+    nodes: &[Node],
+    names: &[Entry],
+    level: u8,
+    set: &Flags,
+    code: &mut Code,
+    i: usize,
+) -> Result<Flags, Fault>
     requires fits { ⌜ Fits (now nodes) (now names) (now code .len) i ⌝ }
     requires tree { ⌜ HasThen (now nodes) i ⌝ }
     ensures answer { λ r. ⌜ GaveThen (now (nodes .entry)) (now (names .entry)) level (now (set .entry)) (now (code .entry)) i r (now (code .exit)) ⌝ }
@@ -228,7 +315,14 @@ fn if_then(nodes: &[Node], names: &[Entry], level: u8, set: &Flags, code: &mut C
 }
 
 // An if with an else: what both blocks leave set is set.
-fn if_else(nodes: &[Node], names: &[Entry], level: u8, set: &Flags, code: &mut Code, i: usize) -> Result<Flags, Fault>
+fn if_else(
+    nodes: &[Node],
+    names: &[Entry],
+    level: u8,
+    set: &Flags,
+    code: &mut Code,
+    i: usize,
+) -> Result<Flags, Fault>
     requires fits { ⌜ Fits (now nodes) (now names) (now code .len) i ⌝ }
     requires tree { ⌜ HasElse (now nodes) i ⌝ }
     ensures answer { λ r. ⌜ GaveElse (now (nodes .entry)) (now (names .entry)) level (now (set .entry)) (now (code .entry)) i r (now (code .exit)) ⌝ }
@@ -252,7 +346,14 @@ fn if_else(nodes: &[Node], names: &[Entry], level: u8, set: &Flags, code: &mut C
 }
 
 // An if, with an else where its first block ends before it.
-fn conditional(nodes: &[Node], names: &[Entry], level: u8, set: &Flags, code: &mut Code, i: usize) -> Result<Flags, Fault>
+fn conditional(
+    nodes: &[Node],
+    names: &[Entry],
+    level: u8,
+    set: &Flags,
+    code: &mut Code,
+    i: usize,
+) -> Result<Flags, Fault>
     requires fits { ⌜ Fits (now nodes) (now names) (now code .len) i ⌝ }
     requires tree { ⌜ HasStatement (now nodes) i ⌝ }
     requires kind { ⌜ IsKind (now nodes) i kinds.IfStatement ⌝ }
@@ -268,7 +369,14 @@ fn conditional(nodes: &[Node], names: &[Entry], level: u8, set: &Flags, code: &m
 }
 
 // A block: its statements, in their order.
-fn block(nodes: &[Node], names: &[Entry], level: u8, set: &Flags, code: &mut Code, i: usize) -> Result<Flags, Fault>
+fn block(
+    nodes: &[Node],
+    names: &[Entry],
+    level: u8,
+    set: &Flags,
+    code: &mut Code,
+    i: usize,
+) -> Result<Flags, Fault>
     requires fits { ⌜ Fits (now nodes) (now names) (now code .len) i ⌝ }
     requires tree { ⌜ HasBlock (now nodes) i ⌝ }
     ensures answer { λ r. ⌜ GaveBlock (now (nodes .entry)) (now (names .entry)) level (now (set .entry)) (now (code .entry)) i r (now (code .exit)) ⌝ }
@@ -280,7 +388,14 @@ fn block(nodes: &[Node], names: &[Entry], level: u8, set: &Flags, code: &mut Cod
 }
 
 // A statement: what it leaves set.
-fn statement(nodes: &[Node], names: &[Entry], level: u8, set: &Flags, code: &mut Code, i: usize) -> Result<Flags, Fault>
+fn statement(
+    nodes: &[Node],
+    names: &[Entry],
+    level: u8,
+    set: &Flags,
+    code: &mut Code,
+    i: usize,
+) -> Result<Flags, Fault>
     requires fits { ⌜ Fits (now nodes) (now names) (now code .len) i ⌝ }
     requires tree { ⌜ HasStatement (now nodes) i ⌝ }
     ensures answer { λ r. ⌜ GaveStatement (now (nodes .entry)) (now (names .entry)) level (now (set .entry)) (now (code .entry)) i r (now (code .exit)) ⌝ }
@@ -311,7 +426,15 @@ fn statement(nodes: &[Node], names: &[Entry], level: u8, set: &Flags, code: &mut
 }
 
 // Statements in their order, each from what the one before left set; and the node where they end.
-pub fn statements(nodes: &[Node], names: &[Entry], level: u8, set: &Flags, code: &mut Code, from: usize, stop: usize) -> Result<(Flags, usize), Fault>
+pub fn statements(
+    nodes: &[Node],
+    names: &[Entry],
+    level: u8,
+    set: &Flags,
+    code: &mut Code,
+    from: usize,
+    stop: usize,
+) -> Result<(Flags, usize), Fault>
     requires fits { ⌜ Fits (now nodes) (now names) (now code .len) from ⌝ }
     requires tree { ⌜ HasRow (now nodes) from stop ⌝ }
     requires inside { ⌜ stop ≤ length (now nodes) ⌝ }

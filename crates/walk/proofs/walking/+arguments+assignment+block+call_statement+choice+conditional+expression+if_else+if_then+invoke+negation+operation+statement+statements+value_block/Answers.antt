@@ -51,10 +51,10 @@ arguments-returns-in-Break-argument t c =
     let q = err-from-errBy (c .from-residual .result) (c .from-residual .ensures .1) in
     rw (q .1, q .2) (record {
       answer = λ es l.
-    let w = c .loop-at .inv .onward es l in
-    let a = an-argument (c .args .nodes .now) (c .loop-at .at) (c .args .stop) (w .0) (w .1) (c .loop-at-test .taken) in
-    let m : LaysAll (ofArguments (argument (a .0) (a .1))) (c .args .nodes .now) (c .loop-at .at) (c .args .stop) = subst (λ es. LaysAll (ofArguments es) (c .args .nodes .now) (c .loop-at .at) (c .args .stop)) (a .2) (w .1) in
-    w .2 ∙ ap (λ fs. walkArguments (seen (c .args .nodes .now) (c .args .names .now) (c .args .level)) fs (tallyOf (c .args .nodes .now) (c .loop-at .tally)) (c .args .set .now .set) (live (c .loop-at .code))) (a .2) ∙ breaks _ (c .in-Break-argument .ensures tt .answer (a .0) (m .0));
+          let w = c .loop-at .inv .onward es l in
+          let a = an-argument (c .args .nodes .now) (c .loop-at .at) (c .args .stop) (w .0) (w .1) (c .loop-at-test .taken) in
+          let m : LaysAll (ofArguments (argument (a .0) (a .1))) (c .args .nodes .now) (c .loop-at .at) (c .args .stop) = subst (λ es. LaysAll (ofArguments es) (c .args .nodes .now) (c .loop-at .at) (c .args .stop)) (a .2) (w .1) in
+          w .2 ∙ ap (λ fs. walkArguments (seen (c .args .nodes .now) (c .args .names .now) (c .args .level)) fs (tallyOf (c .args .nodes .now) (c .loop-at .tally)) (c .args .set .now .set) (live (c .loop-at .code))) (a .2) ∙ breaks _ (c .in-Break-argument .ensures tt .answer (a .0) (m .0));
       room = tt;
     })
 
@@ -74,15 +74,15 @@ arguments-loop-at-again t c =
       grows = omega arith;
       room = omega arith;
       onward = λ es l.
-    let w = c .loop-at .inv .onward es l in
-    let a = an-argument (c .args .nodes .now) (c .loop-at .at) (c .args .stop) (w .0) (w .1) (c .loop-at-test .taken) in
-    let m : LaysAll (ofArguments (argument (a .0) (a .1))) (c .args .nodes .now) (c .loop-at .at) (c .args .stop) = subst (λ es. LaysAll (ofArguments es) (c .args .nodes .now) (c .loop-at .at) (c .args .stop)) (a .2) (w .1) in (
-        a .1,
-        subst (λ k. LaysAll (ofArguments (a .1)) (c .args .nodes .now) k (c .args .stop)) (sym e) (m .1),
-        w .2 ∙ ap (λ fs. walkArguments (seen (c .args .nodes .now) (c .args .names .now) (c .args .level)) fs (tallyOf (c .args .nodes .now) (c .loop-at .tally)) (c .args .set .now .set) (live (c .loop-at .code))) (a .2) ∙
-        goes _ (c .in-Continue-argument .ensures tt .answer (a .0) (m .0)) ∙
-        ap (λ y. walkArguments (seen (c .args .nodes .now) (c .args .names .now) (c .args .level)) (a .1) y (c .args .set .now .set) (live (c .expression .last .code))) (sym (c .take-tally .ensures)),
-      );
+          let w = c .loop-at .inv .onward es l in
+          let a = an-argument (c .args .nodes .now) (c .loop-at .at) (c .args .stop) (w .0) (w .1) (c .loop-at-test .taken) in
+          let m : LaysAll (ofArguments (argument (a .0) (a .1))) (c .args .nodes .now) (c .loop-at .at) (c .args .stop) = subst (λ es. LaysAll (ofArguments es) (c .args .nodes .now) (c .loop-at .at) (c .args .stop)) (a .2) (w .1) in (
+            a .1,
+            subst (λ k. LaysAll (ofArguments (a .1)) (c .args .nodes .now) k (c .args .stop)) (sym e) (m .1),
+            w .2 ∙ ap (λ fs. walkArguments (seen (c .args .nodes .now) (c .args .names .now) (c .args .level)) fs (tallyOf (c .args .nodes .now) (c .loop-at .tally)) (c .args .set .now .set) (live (c .loop-at .code))) (a .2) ∙
+                goes _ (c .in-Continue-argument .ensures tt .answer (a .0) (m .0)) ∙
+                ap (λ y. walkArguments (seen (c .args .nodes .now) (c .args .names .now) (c .args .level)) (a .1) y (c .args .set .now .set) (live (c .expression .last .code))) (sym (c .take-tally .ensures)),
+          );
     }
 
 pub arguments-returns : need.arguments-returns
@@ -90,8 +90,8 @@ arguments-returns t c =
     let inv = c .loop-at .inv in
     record {
       answer = λ es l.
-        let w = inv .onward es l in
-        w .2 ∙ ap (λ fs. walkArguments (seen (c .args .nodes .now) (c .args .names .now) (c .args .level)) fs (tallyOf (c .args .nodes .now) (c .loop-at .tally)) (c .args .set .now .set) (live (c .loop-at .code))) (no-argument (c .args .nodes .now) (c .loop-at .at) (c .args .stop) (w .0) (w .1) (c .loop-at-test .left));
+          let w = inv .onward es l in
+          w .2 ∙ ap (λ fs. walkArguments (seen (c .args .nodes .now) (c .args .names .now) (c .args .level)) fs (tallyOf (c .args .nodes .now) (c .loop-at .tally)) (c .args .set .now .set) (live (c .loop-at .code))) (no-argument (c .args .nodes .now) (c .loop-at .at) (c .args .stop) (w .0) (w .1) (c .loop-at-test .left));
       room = (omega arith, omega arith, omega arith);
     }
 
@@ -123,8 +123,8 @@ pub assignment-returns-then-not-same : need.assignment-returns-then-not-same
 assignment-returns-then-not-same t c =
     record {
       answer = λ p x e l.
-        same-assignment (seen (c .args .nodes .now) (c .args .names .now) (c .args .level)) (c .args .set .now .set) (live (c .args .code .now)) (ap (λ n. n .place) (c .node-at-node .ensures) ∙ l .4) (ap (λ n. n .value) (c .node-at-node .ensures) ∙ l .3) e ∙ goes _ (found-seen (c .args .nodes .now) (c .args .names .now) (c .args .level) (c .node-at-node .result .place) (c .node-at-node .result .value) (c .in-Continue-k .ensures tt .answer)) ∙ goes _ (ap (asVariable (c .node-at-node .result .place)) (entry-seen (c .args .nodes .now) (c .args .names .now) (c .args .level) (c .in-Continue-k .k) (c .in-Continue-k .ensures tt .within)) ∙ sym (c .in-Continue-variable .ensures tt (c .args .nodes .now))) ∙ goes _ (c .in-Continue-value .ensures tt .answer e (l .5 .0)) ∙
-        ap (λ b. beside (typed (c .node-at-node .result .place) b (marked (c .args .set .now .set) (c .in-Continue-k .k) true)) (laid (live (c .expression .last .code)) 4 (operandOf (c .args .level) (c .in-Continue-variable .variable)))) (sym (c .same .ensures) ∙ c .if-not-same .taken) ∙ ap Err (sym (c .refusal .ensures));
+          same-assignment (seen (c .args .nodes .now) (c .args .names .now) (c .args .level)) (c .args .set .now .set) (live (c .args .code .now)) (ap (λ n. n .place) (c .node-at-node .ensures) ∙ l .4) (ap (λ n. n .value) (c .node-at-node .ensures) ∙ l .3) e ∙ goes _ (found-seen (c .args .nodes .now) (c .args .names .now) (c .args .level) (c .node-at-node .result .place) (c .node-at-node .result .value) (c .in-Continue-k .ensures tt .answer)) ∙ goes _ (ap (asVariable (c .node-at-node .result .place)) (entry-seen (c .args .nodes .now) (c .args .names .now) (c .args .level) (c .in-Continue-k .k) (c .in-Continue-k .ensures tt .within)) ∙ sym (c .in-Continue-variable .ensures tt (c .args .nodes .now))) ∙ goes _ (c .in-Continue-value .ensures tt .answer e (l .5 .0)) ∙
+          ap (λ b. beside (typed (c .node-at-node .result .place) b (marked (c .args .set .now .set) (c .in-Continue-k .k) true)) (laid (live (c .expression .last .code)) 4 (operandOf (c .args .level) (c .in-Continue-variable .variable)))) (sym (c .same .ensures) ∙ c .if-not-same .taken) ∙ ap Err (sym (c .refusal .ensures));
       room = tt;
     }
 
@@ -134,10 +134,10 @@ assignment-returns t c =
     let l = c .pre .tree .3 in
     record {
       answer = λ p x e l.
-        same-assignment (seen (c .args .nodes .now) (c .args .names .now) (c .args .level)) (c .args .set .now .set) (live (c .args .code .now)) (ap (λ n. n .place) (c .node-at-node .ensures) ∙ l .4) (ap (λ n. n .value) (c .node-at-node .ensures) ∙ l .3) e ∙ goes _ (found-seen (c .args .nodes .now) (c .args .names .now) (c .args .level) (c .node-at-node .result .place) (c .node-at-node .result .value) (c .in-Continue-k .ensures tt .answer)) ∙ goes _ (ap (asVariable (c .node-at-node .result .place)) (entry-seen (c .args .nodes .now) (c .args .names .now) (c .args .level) (c .in-Continue-k .k) (c .in-Continue-k .ensures tt .within)) ∙ sym (c .in-Continue-variable .ensures tt (c .args .nodes .now))) ∙ goes _ (c .in-Continue-value .ensures tt .answer e (l .5 .0)) ∙
-        ap (λ b. beside (typed (c .node-at-node .result .place) b (marked (c .args .set .now .set) (c .in-Continue-k .k) true)) (laid (live (c .expression .last .code)) 4 (operandOf (c .args .level) (c .in-Continue-variable .variable)))) (sym (c .same .ensures) ∙ c .if-not-same .left) ∙
-        ap (λ m. Ok (m, (laid (live (c .expression .last .code)) 4 (operandOf (c .args .level) (c .in-Continue-variable .variable))))) (sym (c .mark .ensures)) ∙
-        ap (λ s. Ok (c .mark .result .set, s)) (sym (c .emit .ensures .code ∙ ap (λ y. laid (live (c .expression .last .code)) 4 y) (c .operand .ensures)));
+          same-assignment (seen (c .args .nodes .now) (c .args .names .now) (c .args .level)) (c .args .set .now .set) (live (c .args .code .now)) (ap (λ n. n .place) (c .node-at-node .ensures) ∙ l .4) (ap (λ n. n .value) (c .node-at-node .ensures) ∙ l .3) e ∙ goes _ (found-seen (c .args .nodes .now) (c .args .names .now) (c .args .level) (c .node-at-node .result .place) (c .node-at-node .result .value) (c .in-Continue-k .ensures tt .answer)) ∙ goes _ (ap (asVariable (c .node-at-node .result .place)) (entry-seen (c .args .nodes .now) (c .args .names .now) (c .args .level) (c .in-Continue-k .k) (c .in-Continue-k .ensures tt .within)) ∙ sym (c .in-Continue-variable .ensures tt (c .args .nodes .now))) ∙ goes _ (c .in-Continue-value .ensures tt .answer e (l .5 .0)) ∙
+          ap (λ b. beside (typed (c .node-at-node .result .place) b (marked (c .args .set .now .set) (c .in-Continue-k .k) true)) (laid (live (c .expression .last .code)) 4 (operandOf (c .args .level) (c .in-Continue-variable .variable)))) (sym (c .same .ensures) ∙ c .if-not-same .left) ∙
+          ap (λ m. Ok (m, (laid (live (c .expression .last .code)) 4 (operandOf (c .args .level) (c .in-Continue-variable .variable))))) (sym (c .mark .ensures)) ∙
+          ap (λ s. Ok (c .mark .result .set, s)) (sym (c .emit .ensures .code ∙ ap (λ y. laid (live (c .expression .last .code)) 4 y) (c .operand .ensures)));
       room = (omega (arith, c .emit .ensures .length), omega (arith, c .emit .ensures .length), omega arith, omega arith);
     }
 
@@ -157,8 +157,8 @@ block-returns-in-Break-after t c =
     let q = err-from-errBy (c .from-residual .result) (c .from-residual .ensures .1) in
     rw (q .1, q .2) (record {
       answer = λ b l.
-        let v = block-at (c .args .nodes .now) (c .args .i) b l in
-        ap (λ d. walkBlock (seen (c .args .nodes .now) (c .args .names .now) (c .args .level)) d (c .args .set .now .set) (live (c .args .code .now))) (v .3) ∙ c .in-Break-after .ensures tt .answer (statement (v .1) (v .2)) noFinal (subst (λ k. LaysAll (ofStatements (statement (v .1) (v .2)) (ofFinal noFinal)) (c .args .nodes .now) ((c .args .i) + 1) k) (sym (c .end-of-stop .ensures)) (v .4 .5)) .0;
+          let v = block-at (c .args .nodes .now) (c .args .i) b l in
+          ap (λ d. walkBlock (seen (c .args .nodes .now) (c .args .names .now) (c .args .level)) d (c .args .set .now .set) (live (c .args .code .now))) (v .3) ∙ c .in-Break-after .ensures tt .answer (statement (v .1) (v .2)) noFinal (subst (λ k. LaysAll (ofStatements (statement (v .1) (v .2)) (ofFinal noFinal)) (c .args .nodes .now) ((c .args .i) + 1) k) (sym (c .end-of-stop .ensures)) (v .4 .5)) .0;
       room = tt;
     })
 
@@ -172,8 +172,8 @@ block-returns t c =
     let e = c .end-of-stop .ensures in
     record {
       answer = λ b l.
-        let v = block-at (c .args .nodes .now) (c .args .i) b l in
-        ap (λ d. walkBlock (seen (c .args .nodes .now) (c .args .names .now) (c .args .level)) d (c .args .set .now .set) (live (c .args .code .now))) (v .3) ∙ c .in-Continue-after .ensures tt .answer (statement (v .1) (v .2)) noFinal (subst (λ k. LaysAll (ofStatements (statement (v .1) (v .2)) (ofFinal noFinal)) (c .args .nodes .now) ((c .args .i) + 1) k) (sym (c .end-of-stop .ensures)) (v .4 .5)) .0;
+          let v = block-at (c .args .nodes .now) (c .args .i) b l in
+          ap (λ d. walkBlock (seen (c .args .nodes .now) (c .args .names .now) (c .args .level)) d (c .args .set .now .set) (live (c .args .code .now))) (v .3) ∙ c .in-Continue-after .ensures tt .answer (statement (v .1) (v .2)) noFinal (subst (λ k. LaysAll (ofStatements (statement (v .1) (v .2)) (ofFinal noFinal)) (c .args .nodes .now) ((c .args .i) + 1) k) (sym (c .end-of-stop .ensures)) (v .4 .5)) .0;
       room = (omega arith, omega arith, omega arith, omega arith);
     }
 
@@ -194,7 +194,7 @@ call-statement-returns t c =
     let g = c .in-Continue-result .ensures tt .room in
     record {
       answer = λ p x es l.
-        goes _ (c .in-Continue-result .ensures tt .answer kinds.CallStatement p x es l) ∙ ap (λ s. Ok ((c .args .set .now .set), s)) (sym (c .discard .ensures .code));
+          goes _ (c .in-Continue-result .ensures tt .answer kinds.CallStatement p x es l) ∙ ap (λ s. Ok ((c .args .set .now .set), s)) (sym (c .discard .ensures .code));
       room = (omega (arith, c .discard .ensures .length), omega (arith, c .discard .ensures .length), omega arith, omega arith);
     }
 
@@ -222,8 +222,8 @@ conditional-returns-then-end-of t c =
     let g = c .end-of-2 .ensures in
     record {
       answer = λ s l.
-        let v = if-else-at (c .args .nodes .now) (c .args .i) (c .pre .kind) s l (omega (arith, c .if-end-of .taken)) in
-        gave-same (λ g. g .set) (c .if-else .result) (c .if-else .last .code) (ap (λ s. walkStatement (seen (c .args .nodes .now) (c .args .names .now) (c .args .level)) s (c .args .set .now .set) (live (c .args .code .now))) (v .4)) (c .if-else .ensures .answer (v .0) (v .1) (v .2) (v .3) (v .5));
+          let v = if-else-at (c .args .nodes .now) (c .args .i) (c .pre .kind) s l (omega (arith, c .if-end-of .taken)) in
+          gave-same (λ g. g .set) (c .if-else .result) (c .if-else .last .code) (ap (λ s. walkStatement (seen (c .args .nodes .now) (c .args .names .now) (c .args .level)) s (c .args .set .now .set) (live (c .args .code .now))) (v .4)) (c .if-else .ensures .answer (v .0) (v .1) (v .2) (v .3) (v .5));
       room = c .if-else .ensures .room;
     }
 
@@ -233,8 +233,8 @@ conditional-returns-else-end-of t c =
     let g = c .end-of-2 .ensures in
     record {
       answer = λ s l.
-        let v = if-then-at (c .args .nodes .now) (c .args .i) (c .pre .kind) s l (omega (arith, c .if-end-of .left)) in
-        gave-same (λ g. g .set) (c .if-then .result) (c .if-then .last .code) (ap (λ s. walkStatement (seen (c .args .nodes .now) (c .args .names .now) (c .args .level)) s (c .args .set .now .set) (live (c .args .code .now))) (v .3)) (c .if-then .ensures .answer (v .0) (v .1) (v .2) (v .4));
+          let v = if-then-at (c .args .nodes .now) (c .args .i) (c .pre .kind) s l (omega (arith, c .if-end-of .left)) in
+          gave-same (λ g. g .set) (c .if-then .result) (c .if-then .last .code) (ap (λ s. walkStatement (seen (c .args .nodes .now) (c .args .names .now) (c .args .level)) s (c .args .set .now .set) (live (c .args .code .now))) (v .3)) (c .if-then .ensures .answer (v .0) (v .1) (v .2) (v .4));
       room = c .if-then .ensures .room;
     }
 
@@ -287,9 +287,9 @@ expression-returns-in-Integer t c =
     let k = m .3 .5 in
     record {
       answer = λ e l.
-        let v = integer-at (c .args .nodes .now) (c .args .i) (decided (c .args .nodes .now) (c .args .i) (c .node-at-node .ensures) (c .from-number .ensures) (c .in-Some .is) (c .in-Integer .is)) e l in
-        ap (λ f. walkExpression (seen (c .args .nodes .now) (c .args .names .now) (c .args .level)) f (c .args .set .now .set) (live (c .args .code .now))) (v .2) ∙
-        ap (λ s. Ok (Int, s)) (sym (c .emit .ensures .code ∙ ap (λ n. laid (live (c .args .code .now)) 1 n) (ap (λ n. n .value) (c .node-at-node .ensures) ∙ v .3 .3)));
+          let v = integer-at (c .args .nodes .now) (c .args .i) (decided (c .args .nodes .now) (c .args .i) (c .node-at-node .ensures) (c .from-number .ensures) (c .in-Some .is) (c .in-Integer .is)) e l in
+          ap (λ f. walkExpression (seen (c .args .nodes .now) (c .args .names .now) (c .args .level)) f (c .args .set .now .set) (live (c .args .code .now))) (v .2) ∙
+          ap (λ s. Ok (Int, s)) (sym (c .emit .ensures .code ∙ ap (λ n. laid (live (c .args .code .now)) 1 n) (ap (λ n. n .value) (c .node-at-node .ensures) ∙ v .3 .3)));
       room = (omega (arith, c .emit .ensures .length), omega (arith, c .emit .ensures .length), omega arith, omega arith);
     }
 
@@ -300,9 +300,9 @@ expression-returns-in-Truth t c =
     let k = m .3 .5 in
     record {
       answer = λ e l.
-        let v = truth-at (c .args .nodes .now) (c .args .i) (decided (c .args .nodes .now) (c .args .i) (c .node-at-node .ensures) (c .from-number .ensures) (c .in-Some .is) (c .in-Truth .is)) e l in
-        ap (λ f. walkExpression (seen (c .args .nodes .now) (c .args .names .now) (c .args .level)) f (c .args .set .now .set) (live (c .args .code .now))) (v .2) ∙
-        ap (λ s. Ok (Truths, s)) (sym (c .emit-in-Truth .ensures .code ∙ ap (λ n. laid (live (c .args .code .now)) 2 n) (ap (λ n. n .value) (c .node-at-node .ensures) ∙ v .3 .3)));
+          let v = truth-at (c .args .nodes .now) (c .args .i) (decided (c .args .nodes .now) (c .args .i) (c .node-at-node .ensures) (c .from-number .ensures) (c .in-Some .is) (c .in-Truth .is)) e l in
+          ap (λ f. walkExpression (seen (c .args .nodes .now) (c .args .names .now) (c .args .level)) f (c .args .set .now .set) (live (c .args .code .now))) (v .2) ∙
+          ap (λ s. Ok (Truths, s)) (sym (c .emit-in-Truth .ensures .code ∙ ap (λ n. laid (live (c .args .code .now)) 2 n) (ap (λ n. n .value) (c .node-at-node .ensures) ∙ v .3 .3)));
       room = (omega (arith, c .emit-in-Truth .ensures .length), omega (arith, c .emit-in-Truth .ensures .length), omega arith, omega arith);
     }
 
@@ -311,10 +311,10 @@ expression-returns-in-Read t c =
     let m = read-at (c .args .nodes .now) (c .args .i) (decided (c .args .nodes .now) (c .args .i) (c .node-at-node .ensures) (c .from-number .ensures) (c .in-Some .is) (c .in-Read .is)) (c .pre .tree .0) (c .pre .tree .1) in
     record {
       answer = λ e l.
-        let v = read-at (c .args .nodes .now) (c .args .i) (decided (c .args .nodes .now) (c .args .i) (c .node-at-node .ensures) (c .from-number .ensures) (c .in-Some .is) (c .in-Read .is)) e l in
-        gave-same (λ u. u) (c .read .result) (c .read .last .code)
-        (ap (λ f. walkExpression (seen (c .args .nodes .now) (c .args .names .now) (c .args .level)) f (c .args .set .now .set) (live (c .args .code .now))) (v .2) ∙ sym (ap (λ p. reading (seen (c .args .nodes .now) (c .args .names .now) (c .args .level)) p (c .node-at-node .result .value) (c .args .set .now .set) (live (c .args .code .now))) (ap (λ n. n .place) (c .node-at-node .ensures) ∙ v .3 .4) ∙ ap (λ x. reading (seen (c .args .nodes .now) (c .args .names .now) (c .args .level)) (v .0) x (c .args .set .now .set) (live (c .args .code .now))) (ap (λ n. n .value) (c .node-at-node .ensures) ∙ v .3 .3)))
-        (c .read .ensures .answer (c .args .nodes .now));
+          let v = read-at (c .args .nodes .now) (c .args .i) (decided (c .args .nodes .now) (c .args .i) (c .node-at-node .ensures) (c .from-number .ensures) (c .in-Some .is) (c .in-Read .is)) e l in
+          gave-same (λ u. u) (c .read .result) (c .read .last .code)
+          (ap (λ f. walkExpression (seen (c .args .nodes .now) (c .args .names .now) (c .args .level)) f (c .args .set .now .set) (live (c .args .code .now))) (v .2) ∙ sym (ap (λ p. reading (seen (c .args .nodes .now) (c .args .names .now) (c .args .level)) p (c .node-at-node .result .value) (c .args .set .now .set) (live (c .args .code .now))) (ap (λ n. n .place) (c .node-at-node .ensures) ∙ v .3 .4) ∙ ap (λ x. reading (seen (c .args .nodes .now) (c .args .names .now) (c .args .level)) (v .0) x (c .args .set .now .set) (live (c .args .code .now))) (ap (λ n. n .value) (c .node-at-node .ensures) ∙ v .3 .3)))
+          (c .read .ensures .answer (c .args .nodes .now));
       room = grew-one (c .read .result) (c .args .nodes .now) (c .args .code .now .len) (c .read .last .code .len) (c .args .i) (endAt (c .args .nodes .now) (c .args .i)) (m .3 .0) (m .3 .5) (c .read .ensures .room);
     }
 
@@ -322,8 +322,8 @@ pub expression-returns-in-Not : need.expression-returns-in-Not
 expression-returns-in-Not t c =
     record {
       answer = λ e l.
-        let v = negation-at (c .args .nodes .now) (c .args .i) (decided (c .args .nodes .now) (c .args .i) (c .node-at-node .ensures) (c .from-number .ensures) (c .in-Some .is) (c .in-Not .is)) e l in
-        gave-same (λ u. u) (c .negation .result) (c .negation .last .code) (ap (λ f. walkExpression (seen (c .args .nodes .now) (c .args .names .now) (c .args .level)) f (c .args .set .now .set) (live (c .args .code .now))) (v .2)) (c .negation .ensures .answer (v .0) (v .1) (v .3));
+          let v = negation-at (c .args .nodes .now) (c .args .i) (decided (c .args .nodes .now) (c .args .i) (c .node-at-node .ensures) (c .from-number .ensures) (c .in-Some .is) (c .in-Not .is)) e l in
+          gave-same (λ u. u) (c .negation .result) (c .negation .last .code) (ap (λ f. walkExpression (seen (c .args .nodes .now) (c .args .names .now) (c .args .level)) f (c .args .set .now .set) (live (c .args .code .now))) (v .2)) (c .negation .ensures .answer (v .0) (v .1) (v .3));
       room = c .negation .ensures .room;
     }
 
@@ -331,8 +331,8 @@ pub expression-returns-in-Operator : need.expression-returns-in-Operator
 expression-returns-in-Operator t c =
     record {
       answer = λ e l.
-        let v = operation-at (c .args .nodes .now) (c .args .i) (decided (c .args .nodes .now) (c .args .i) (c .node-at-node .ensures) (c .from-number .ensures) (c .in-Some .is) (c .in-Operator .is)) e l in
-        gave-same (λ u. u) (c .operation .result) (c .operation .last .code) (ap (λ f. walkExpression (seen (c .args .nodes .now) (c .args .names .now) (c .args .level)) f (c .args .set .now .set) (live (c .args .code .now))) (v .4)) (c .operation .ensures .answer (v .0) (v .1) (v .2) (v .3) (v .5));
+          let v = operation-at (c .args .nodes .now) (c .args .i) (decided (c .args .nodes .now) (c .args .i) (c .node-at-node .ensures) (c .from-number .ensures) (c .in-Some .is) (c .in-Operator .is)) e l in
+          gave-same (λ u. u) (c .operation .result) (c .operation .last .code) (ap (λ f. walkExpression (seen (c .args .nodes .now) (c .args .names .now) (c .args .level)) f (c .args .set .now .set) (live (c .args .code .now))) (v .4)) (c .operation .ensures .answer (v .0) (v .1) (v .2) (v .3) (v .5));
       room = c .operation .ensures .room;
     }
 
@@ -340,8 +340,8 @@ pub expression-returns-in-IfExpression : need.expression-returns-in-IfExpression
 expression-returns-in-IfExpression t c =
     record {
       answer = λ e l.
-        let v = choice-at (c .args .nodes .now) (c .args .i) (decided (c .args .nodes .now) (c .args .i) (c .node-at-node .ensures) (c .from-number .ensures) (c .in-Some .is) (c .in-IfExpression .is)) e l in
-        gave-same (λ u. u) (c .choice .result) (c .choice .last .code) (ap (λ f. walkExpression (seen (c .args .nodes .now) (c .args .names .now) (c .args .level)) f (c .args .set .now .set) (live (c .args .code .now))) (v .4)) (c .choice .ensures .answer (v .0) (v .1) (v .2) (v .3) (v .5));
+          let v = choice-at (c .args .nodes .now) (c .args .i) (decided (c .args .nodes .now) (c .args .i) (c .node-at-node .ensures) (c .from-number .ensures) (c .in-Some .is) (c .in-IfExpression .is)) e l in
+          gave-same (λ u. u) (c .choice .result) (c .choice .last .code) (ap (λ f. walkExpression (seen (c .args .nodes .now) (c .args .names .now) (c .args .level)) f (c .args .set .now .set) (live (c .args .code .now))) (v .4)) (c .choice .ensures .answer (v .0) (v .1) (v .2) (v .3) (v .5));
       room = c .choice .ensures .room;
     }
 
@@ -349,8 +349,8 @@ pub expression-returns-in-Call : need.expression-returns-in-Call
 expression-returns-in-Call t c =
     record {
       answer = λ e l.
-        let v = call-at (c .args .nodes .now) (c .args .i) (decided (c .args .nodes .now) (c .args .i) (c .node-at-node .ensures) (c .from-number .ensures) (c .in-Some .is) (c .in-Call .is)) e l in
-        gave-same (λ u. u) (c .invoke .result) (c .invoke .last .code) (ap (λ f. walkExpression (seen (c .args .nodes .now) (c .args .names .now) (c .args .level)) f (c .args .set .now .set) (live (c .args .code .now))) (v .3)) (c .invoke .ensures .answer kinds.Call (v .0) (v .1) (v .2) (v .4));
+          let v = call-at (c .args .nodes .now) (c .args .i) (decided (c .args .nodes .now) (c .args .i) (c .node-at-node .ensures) (c .from-number .ensures) (c .in-Some .is) (c .in-Call .is)) e l in
+          gave-same (λ u. u) (c .invoke .result) (c .invoke .last .code) (ap (λ f. walkExpression (seen (c .args .nodes .now) (c .args .names .now) (c .args .level)) f (c .args .set .now .set) (live (c .args .code .now))) (v .3)) (c .invoke .ensures .answer kinds.Call (v .0) (v .1) (v .2) (v .4));
       room = grew-call (c .invoke .result) (c .args .nodes .now) (c .args .code .now .len) (c .invoke .last .code .len) (c .args .i) (endAt (c .args .nodes .now) (c .args .i)) (c .invoke .ensures .room);
     }
 
@@ -385,9 +385,9 @@ invoke-returns-in-Break-tally t c =
     let q = err-from-errBy (c .from-residual-in-Break-tally .result) (c .from-residual-in-Break-tally .ensures .1) in
     rw (q .1, q .2) (record {
       answer = λ k p x es l. same-calling (seen (c .args .nodes .now) (c .args .names .now) (c .args .level)) (c .args .set .now .set) (live (c .args .code .now)) (ap (λ n. n .place) (c .node-at-node .ensures) ∙ l .4) (ap (λ n. n .value) (c .node-at-node .ensures) ∙ l .3) (λ y d. walkArguments (seen (c .args .nodes .now) (c .args .names .now) (c .args .level)) es y (c .args .set .now .set) d) ∙ goes _ (found-seen (c .args .nodes .now) (c .args .names .now) (c .args .level) (c .node-at-node .result .place) (c .node-at-node .result .value) (c .in-Continue-k .ensures tt .answer)) ∙ goes _ (ap (λ n. callable (c .node-at-node .result .place) (n .thing)) (entry-seen (c .args .nodes .now) (c .args .names .now) (c .args .level) (c .in-Continue-k .k) (c .in-Continue-k .ensures tt .within)) ∙ sym (c .in-Continue-callable .ensures tt (c .args .nodes .now))) ∙ breaks _ (ap (λ n. walkArguments (seen (c .args .nodes .now) (c .args .names .now) (c .args .level)) es (tallied (parametersOf (n .thing)) false true) (c .args .set .now .set) (opened (c .args .level) (n .level) (n .thing) (live (c .args .code .now)))) (entry-seen (c .args .nodes .now) (c .args .names .now) (c .args .level) (c .in-Continue-k .k) (c .in-Continue-k .ensures tt .within)) ∙
-        ap (λ qs. walkArguments (seen (c .args .nodes .now) (c .args .names .now) (c .args .level)) es (tallied qs false true) (c .args .set .now .set) (opened (c .args .level) ((getD (c .args .names .now) (c .in-Continue-k .k) noEntry) .level) (thingOf (c .args .nodes .now) ((getD (c .args .names .now) (c .in-Continue-k .k) noEntry) .what)) (live (c .args .code .now)))) (sym (c .parameters .ensures (c .args .nodes .now))) ∙
-        ap (λ s. walkArguments (seen (c .args .nodes .now) (c .args .names .now) (c .args .level)) es (tallied (comes (c .args .nodes .now) (c .parameters .result)) false true) (c .args .set .now .set) s) (sym (c .open .ensures .code (c .args .nodes .now))) ∙
-        c .in-Break-tally .ensures tt .answer es (subst (λ s. LaysAll (ofArguments es) (c .args .nodes .now) ((c .args .i) + 1) s) (sym (ap (λ n. n .end) (c .node-at-node .ensures))) (l .5)));
+          ap (λ qs. walkArguments (seen (c .args .nodes .now) (c .args .names .now) (c .args .level)) es (tallied qs false true) (c .args .set .now .set) (opened (c .args .level) ((getD (c .args .names .now) (c .in-Continue-k .k) noEntry) .level) (thingOf (c .args .nodes .now) ((getD (c .args .names .now) (c .in-Continue-k .k) noEntry) .what)) (live (c .args .code .now)))) (sym (c .parameters .ensures (c .args .nodes .now))) ∙
+          ap (λ s. walkArguments (seen (c .args .nodes .now) (c .args .names .now) (c .args .level)) es (tallied (comes (c .args .nodes .now) (c .parameters .result)) false true) (c .args .set .now .set) s) (sym (c .open .ensures .code (c .args .nodes .now))) ∙
+          c .in-Break-tally .ensures tt .answer es (subst (λ s. LaysAll (ofArguments es) (c .args .nodes .now) ((c .args .i) + 1) s) (sym (ap (λ n. n .end) (c .node-at-node .ensures))) (l .5)));
       room = tt;
     })
 
@@ -413,14 +413,14 @@ invoke-returns t c =
     let d = c .close .ensures .length in
     record {
       answer = λ k p x es l.
-        gave-beside (c .judge .result) (judged (c .node-at-node .result .place) (tallyOf (c .args .nodes .now) (c .in-Continue-tally .tally)) (c .result .result)) (c .close .last .code) _ (c .judge .ensures)
-        (same-calling (seen (c .args .nodes .now) (c .args .names .now) (c .args .level)) (c .args .set .now .set) (live (c .args .code .now)) (ap (λ n. n .place) (c .node-at-node .ensures) ∙ l .4) (ap (λ n. n .value) (c .node-at-node .ensures) ∙ l .3) (λ y d. walkArguments (seen (c .args .nodes .now) (c .args .names .now) (c .args .level)) es y (c .args .set .now .set) d) ∙ goes _ (found-seen (c .args .nodes .now) (c .args .names .now) (c .args .level) (c .node-at-node .result .place) (c .node-at-node .result .value) (c .in-Continue-k .ensures tt .answer)) ∙ goes _ (ap (λ n. callable (c .node-at-node .result .place) (n .thing)) (entry-seen (c .args .nodes .now) (c .args .names .now) (c .args .level) (c .in-Continue-k .k) (c .in-Continue-k .ensures tt .within)) ∙ sym (c .in-Continue-callable .ensures tt (c .args .nodes .now))) ∙ goes _ (ap (λ n. walkArguments (seen (c .args .nodes .now) (c .args .names .now) (c .args .level)) es (tallied (parametersOf (n .thing)) false true) (c .args .set .now .set) (opened (c .args .level) (n .level) (n .thing) (live (c .args .code .now)))) (entry-seen (c .args .nodes .now) (c .args .names .now) (c .args .level) (c .in-Continue-k .k) (c .in-Continue-k .ensures tt .within)) ∙
-        ap (λ qs. walkArguments (seen (c .args .nodes .now) (c .args .names .now) (c .args .level)) es (tallied qs false true) (c .args .set .now .set) (opened (c .args .level) ((getD (c .args .names .now) (c .in-Continue-k .k) noEntry) .level) (thingOf (c .args .nodes .now) ((getD (c .args .names .now) (c .in-Continue-k .k) noEntry) .what)) (live (c .args .code .now)))) (sym (c .parameters .ensures (c .args .nodes .now))) ∙
-        ap (λ s. walkArguments (seen (c .args .nodes .now) (c .args .names .now) (c .args .level)) es (tallied (comes (c .args .nodes .now) (c .parameters .result)) false true) (c .args .set .now .set) s) (sym (c .open .ensures .code (c .args .nodes .now))) ∙
-        c .in-Continue-tally .ensures tt .answer es (subst (λ s. LaysAll (ofArguments es) (c .args .nodes .now) ((c .args .i) + 1) s) (sym (ap (λ n. n .end) (c .node-at-node .ensures))) (l .5))) ∙
-        ap (λ n. beside (judged (c .node-at-node .result .place) (tallyOf (c .args .nodes .now) (c .in-Continue-tally .tally)) (resultOf (n .thing))) (closed (n .thing) (live (c .arguments .last .code)))) (entry-seen (c .args .nodes .now) (c .args .names .now) (c .args .level) (c .in-Continue-k .k) (c .in-Continue-k .ensures tt .within)) ∙
-        ap (λ u. beside (judged (c .node-at-node .result .place) (tallyOf (c .args .nodes .now) (c .in-Continue-tally .tally)) u) (closed (thingOf (c .args .nodes .now) ((getD (c .args .names .now) (c .in-Continue-k .k) noEntry) .what)) (live (c .arguments .last .code)))) (sym (c .result .ensures (c .args .nodes .now))) ∙
-        ap (λ s. beside (judged (c .node-at-node .result .place) (tallyOf (c .args .nodes .now) (c .in-Continue-tally .tally)) (c .result .result)) s) (sym (c .close .ensures .code (c .args .nodes .now))));
+          gave-beside (c .judge .result) (judged (c .node-at-node .result .place) (tallyOf (c .args .nodes .now) (c .in-Continue-tally .tally)) (c .result .result)) (c .close .last .code) _ (c .judge .ensures)
+          (same-calling (seen (c .args .nodes .now) (c .args .names .now) (c .args .level)) (c .args .set .now .set) (live (c .args .code .now)) (ap (λ n. n .place) (c .node-at-node .ensures) ∙ l .4) (ap (λ n. n .value) (c .node-at-node .ensures) ∙ l .3) (λ y d. walkArguments (seen (c .args .nodes .now) (c .args .names .now) (c .args .level)) es y (c .args .set .now .set) d) ∙ goes _ (found-seen (c .args .nodes .now) (c .args .names .now) (c .args .level) (c .node-at-node .result .place) (c .node-at-node .result .value) (c .in-Continue-k .ensures tt .answer)) ∙ goes _ (ap (λ n. callable (c .node-at-node .result .place) (n .thing)) (entry-seen (c .args .nodes .now) (c .args .names .now) (c .args .level) (c .in-Continue-k .k) (c .in-Continue-k .ensures tt .within)) ∙ sym (c .in-Continue-callable .ensures tt (c .args .nodes .now))) ∙ goes _ (ap (λ n. walkArguments (seen (c .args .nodes .now) (c .args .names .now) (c .args .level)) es (tallied (parametersOf (n .thing)) false true) (c .args .set .now .set) (opened (c .args .level) (n .level) (n .thing) (live (c .args .code .now)))) (entry-seen (c .args .nodes .now) (c .args .names .now) (c .args .level) (c .in-Continue-k .k) (c .in-Continue-k .ensures tt .within)) ∙
+          ap (λ qs. walkArguments (seen (c .args .nodes .now) (c .args .names .now) (c .args .level)) es (tallied qs false true) (c .args .set .now .set) (opened (c .args .level) ((getD (c .args .names .now) (c .in-Continue-k .k) noEntry) .level) (thingOf (c .args .nodes .now) ((getD (c .args .names .now) (c .in-Continue-k .k) noEntry) .what)) (live (c .args .code .now)))) (sym (c .parameters .ensures (c .args .nodes .now))) ∙
+          ap (λ s. walkArguments (seen (c .args .nodes .now) (c .args .names .now) (c .args .level)) es (tallied (comes (c .args .nodes .now) (c .parameters .result)) false true) (c .args .set .now .set) s) (sym (c .open .ensures .code (c .args .nodes .now))) ∙
+          c .in-Continue-tally .ensures tt .answer es (subst (λ s. LaysAll (ofArguments es) (c .args .nodes .now) ((c .args .i) + 1) s) (sym (ap (λ n. n .end) (c .node-at-node .ensures))) (l .5))) ∙
+          ap (λ n. beside (judged (c .node-at-node .result .place) (tallyOf (c .args .nodes .now) (c .in-Continue-tally .tally)) (resultOf (n .thing))) (closed (n .thing) (live (c .arguments .last .code)))) (entry-seen (c .args .nodes .now) (c .args .names .now) (c .args .level) (c .in-Continue-k .k) (c .in-Continue-k .ensures tt .within)) ∙
+          ap (λ u. beside (judged (c .node-at-node .result .place) (tallyOf (c .args .nodes .now) (c .in-Continue-tally .tally)) u) (closed (thingOf (c .args .nodes .now) ((getD (c .args .names .now) (c .in-Continue-k .k) noEntry) .what)) (live (c .arguments .last .code)))) (sym (c .result .ensures (c .args .nodes .now))) ∙
+          ap (λ s. beside (judged (c .node-at-node .result .place) (tallyOf (c .args .nodes .now) (c .in-Continue-tally .tally)) (c .result .result)) s) (sym (c .close .ensures .code (c .args .nodes .now))));
       room = grew-judged (c .judge .result) (c .args .nodes .now) (c .args .code .now .len) (c .close .last .code .len) (c .args .i) (endAt (c .args .nodes .now) (c .args .i)) (omega arith) (omega arith) h m;
     }
 
@@ -443,8 +443,8 @@ pub statement-returns-in-Assignment : need.statement-returns-in-Assignment
 statement-returns-in-Assignment t c =
     record {
       answer = λ s l.
-        let v = assignment-at (c .args .nodes .now) (c .args .i) (decided (c .args .nodes .now) (c .args .i) (c .node-at .ensures) (c .from-number .ensures) (c .in-Some .is) (c .in-Assignment .is)) s l in
-        gave-same (λ g. g .set) (c .assignment .result) (c .assignment .last .code) (ap (λ s. walkStatement (seen (c .args .nodes .now) (c .args .names .now) (c .args .level)) s (c .args .set .now .set) (live (c .args .code .now))) (v .3)) (c .assignment .ensures .answer (v .0) (v .1) (v .2) (v .4));
+          let v = assignment-at (c .args .nodes .now) (c .args .i) (decided (c .args .nodes .now) (c .args .i) (c .node-at .ensures) (c .from-number .ensures) (c .in-Some .is) (c .in-Assignment .is)) s l in
+          gave-same (λ g. g .set) (c .assignment .result) (c .assignment .last .code) (ap (λ s. walkStatement (seen (c .args .nodes .now) (c .args .names .now) (c .args .level)) s (c .args .set .now .set) (live (c .args .code .now))) (v .3)) (c .assignment .ensures .answer (v .0) (v .1) (v .2) (v .4));
       room = c .assignment .ensures .room;
     }
 
@@ -457,8 +457,8 @@ pub statement-returns-in-CallStatement : need.statement-returns-in-CallStatement
 statement-returns-in-CallStatement t c =
     record {
       answer = λ s l.
-        let v = call-statement-at (c .args .nodes .now) (c .args .i) (decided (c .args .nodes .now) (c .args .i) (c .node-at .ensures) (c .from-number .ensures) (c .in-Some .is) (c .in-CallStatement .is)) s l in
-        gave-same (λ g. g .set) (c .call-statement .result) (c .call-statement .last .code) (ap (λ s. walkStatement (seen (c .args .nodes .now) (c .args .names .now) (c .args .level)) s (c .args .set .now .set) (live (c .args .code .now))) (v .3)) (c .call-statement .ensures .answer (v .0) (v .1) (v .2) (v .4));
+          let v = call-statement-at (c .args .nodes .now) (c .args .i) (decided (c .args .nodes .now) (c .args .i) (c .node-at .ensures) (c .from-number .ensures) (c .in-Some .is) (c .in-CallStatement .is)) s l in
+          gave-same (λ g. g .set) (c .call-statement .result) (c .call-statement .last .code) (ap (λ s. walkStatement (seen (c .args .nodes .now) (c .args .names .now) (c .args .level)) s (c .args .set .now .set) (live (c .args .code .now))) (v .3)) (c .call-statement .ensures .answer (v .0) (v .1) (v .2) (v .4));
       room = c .call-statement .ensures .room;
     }
 
@@ -472,9 +472,9 @@ statements-returns-then-not-is-statement t c =
     let inv = c .loop-at .inv in
     record {
       answer = λ ss f l.
-        let w = inv .onward ss f l in
-        let z = row-ended (c .args .nodes .now) (c .loop-at .at) (c .args .stop) (w .0) (ofFinal f) (w .1) (λ h e. no-statement (classAt (c .args .nodes .now) (c .loop-at .at)) (ap (λ n. isStatement (classOr (kindAt (n .kind)))) (sym (c .node-at-node .ensures)) ∙ sym (c .is-statement .ensures) ∙ c .if-not-is-statement .taken) e) in
-        (w .2 ∙ ap (λ rs. walkStatements (seen (c .args .nodes .now) (c .args .names .now) (c .args .level)) rs (c .loop-at .flags .set) (live (c .loop-at .code))) z, subst (λ rs. LaysAll (ofStatements rs (ofFinal f)) (c .args .nodes .now) (c .loop-at .at) (c .args .stop)) z (w .1));
+          let w = inv .onward ss f l in
+          let z = row-ended (c .args .nodes .now) (c .loop-at .at) (c .args .stop) (w .0) (ofFinal f) (w .1) (λ h e. no-statement (classAt (c .args .nodes .now) (c .loop-at .at)) (ap (λ n. isStatement (classOr (kindAt (n .kind)))) (sym (c .node-at-node .ensures)) ∙ sym (c .is-statement .ensures) ∙ c .if-not-is-statement .taken) e) in
+          (w .2 ∙ ap (λ rs. walkStatements (seen (c .args .nodes .now) (c .args .names .now) (c .args .level)) rs (c .loop-at .flags .set) (live (c .loop-at .code))) z, subst (λ rs. LaysAll (ofStatements rs (ofFinal f)) (c .args .nodes .now) (c .loop-at .at) (c .args .stop)) z (w .1));
       room = (inv .grows, inv .room, inv .behind, inv .short);
     }
 
@@ -491,9 +491,9 @@ statements-returns-in-Break-flags t c =
     let q = err-from-errBy (c .from-residual .result) (c .from-residual .ensures .1) in
     rw (q .1, q .2) (record {
       answer = λ ss f l. let w = c .loop-at .inv .onward ss f l in
-    let a = row-goes-on (c .args .nodes .now) (c .loop-at .at) (c .args .stop) (w .0) (ofFinal f) (final-lacks f) (w .1) (c .loop-at-test .taken) (is-statement (classAt (c .args .nodes .now) (c .loop-at .at)) (ap (λ n. isStatement (classOr (kindAt (n .kind)))) (sym (c .node-at-node .ensures)) ∙ sym (c .is-statement .ensures) ∙ c .if-not-is-statement .left)) in
-    let m : LaysAll (ofStatements (statement (a .0) (a .1)) (ofFinal f)) (c .args .nodes .now) (c .loop-at .at) (c .args .stop) = subst (λ ss. LaysAll (ofStatements ss (ofFinal f)) (c .args .nodes .now) (c .loop-at .at) (c .args .stop)) (a .2) (w .1) in
-        (w .2 ∙ ap (λ rs. walkStatements (seen (c .args .nodes .now) (c .args .names .now) (c .args .level)) rs (c .loop-at .flags .set) (live (c .loop-at .code))) (a .2) ∙ breaks _ (c .in-Break-flags .ensures tt .answer (a .0) (m .0)), tt);
+          let a = row-goes-on (c .args .nodes .now) (c .loop-at .at) (c .args .stop) (w .0) (ofFinal f) (final-lacks f) (w .1) (c .loop-at-test .taken) (is-statement (classAt (c .args .nodes .now) (c .loop-at .at)) (ap (λ n. isStatement (classOr (kindAt (n .kind)))) (sym (c .node-at-node .ensures)) ∙ sym (c .is-statement .ensures) ∙ c .if-not-is-statement .left)) in
+          let m : LaysAll (ofStatements (statement (a .0) (a .1)) (ofFinal f)) (c .args .nodes .now) (c .loop-at .at) (c .args .stop) = subst (λ ss. LaysAll (ofStatements ss (ofFinal f)) (c .args .nodes .now) (c .loop-at .at) (c .args .stop)) (a .2) (w .1) in
+          (w .2 ∙ ap (λ rs. walkStatements (seen (c .args .nodes .now) (c .args .names .now) (c .args .level)) rs (c .loop-at .flags .set) (live (c .loop-at .code))) (a .2) ∙ breaks _ (c .in-Break-flags .ensures tt .answer (a .0) (m .0)), tt);
       room = tt;
     })
 
@@ -513,13 +513,13 @@ statements-loop-at-again t c =
       grows = omega arith;
       room = omega arith;
       onward = λ ss f l.
-    let w = c .loop-at .inv .onward ss f l in
-    let a = row-goes-on (c .args .nodes .now) (c .loop-at .at) (c .args .stop) (w .0) (ofFinal f) (final-lacks f) (w .1) (c .loop-at-test .taken) (is-statement (classAt (c .args .nodes .now) (c .loop-at .at)) (ap (λ n. isStatement (classOr (kindAt (n .kind)))) (sym (c .node-at-node .ensures)) ∙ sym (c .is-statement .ensures) ∙ c .if-not-is-statement .left)) in
-    let m : LaysAll (ofStatements (statement (a .0) (a .1)) (ofFinal f)) (c .args .nodes .now) (c .loop-at .at) (c .args .stop) = subst (λ ss. LaysAll (ofStatements ss (ofFinal f)) (c .args .nodes .now) (c .loop-at .at) (c .args .stop)) (a .2) (w .1) in (
-        a .1,
-        subst (λ k. LaysAll (ofStatements (a .1) (ofFinal f)) (c .args .nodes .now) k (c .args .stop)) (sym e) (m .1),
-        w .2 ∙ ap (λ rs. walkStatements (seen (c .args .nodes .now) (c .args .names .now) (c .args .level)) rs (c .loop-at .flags .set) (live (c .loop-at .code))) (a .2) ∙ goes _ (c .in-Continue-flags .ensures tt .answer (a .0) (m .0)),
-      );
+          let w = c .loop-at .inv .onward ss f l in
+          let a = row-goes-on (c .args .nodes .now) (c .loop-at .at) (c .args .stop) (w .0) (ofFinal f) (final-lacks f) (w .1) (c .loop-at-test .taken) (is-statement (classAt (c .args .nodes .now) (c .loop-at .at)) (ap (λ n. isStatement (classOr (kindAt (n .kind)))) (sym (c .node-at-node .ensures)) ∙ sym (c .is-statement .ensures) ∙ c .if-not-is-statement .left)) in
+          let m : LaysAll (ofStatements (statement (a .0) (a .1)) (ofFinal f)) (c .args .nodes .now) (c .loop-at .at) (c .args .stop) = subst (λ ss. LaysAll (ofStatements ss (ofFinal f)) (c .args .nodes .now) (c .loop-at .at) (c .args .stop)) (a .2) (w .1) in (
+            a .1,
+            subst (λ k. LaysAll (ofStatements (a .1) (ofFinal f)) (c .args .nodes .now) k (c .args .stop)) (sym e) (m .1),
+            w .2 ∙ ap (λ rs. walkStatements (seen (c .args .nodes .now) (c .args .names .now) (c .args .level)) rs (c .loop-at .flags .set) (live (c .loop-at .code))) (a .2) ∙ goes _ (c .in-Continue-flags .ensures tt .answer (a .0) (m .0)),
+          );
     }
 
 pub statements-returns : need.statements-returns
@@ -527,9 +527,9 @@ statements-returns t c =
     let inv = c .loop-at .inv in
     record {
       answer = λ ss f l.
-        let w = inv .onward ss f l in
-        let z = row-ended (c .args .nodes .now) (c .loop-at .at) (c .args .stop) (w .0) (ofFinal f) (w .1) (λ h e. omega (arith, c .loop-at-test .left)) in
-        (w .2 ∙ ap (λ rs. walkStatements (seen (c .args .nodes .now) (c .args .names .now) (c .args .level)) rs (c .loop-at .flags .set) (live (c .loop-at .code))) z, subst (λ rs. LaysAll (ofStatements rs (ofFinal f)) (c .args .nodes .now) (c .loop-at .at) (c .args .stop)) z (w .1));
+          let w = inv .onward ss f l in
+          let z = row-ended (c .args .nodes .now) (c .loop-at .at) (c .args .stop) (w .0) (ofFinal f) (w .1) (λ h e. omega (arith, c .loop-at-test .left)) in
+          (w .2 ∙ ap (λ rs. walkStatements (seen (c .args .nodes .now) (c .args .names .now) (c .args .level)) rs (c .loop-at .flags .set) (live (c .loop-at .code))) z, subst (λ rs. LaysAll (ofStatements rs (ofFinal f)) (c .args .nodes .now) (c .loop-at .at) (c .args .stop)) z (w .1));
       room = (inv .grows, inv .room, inv .behind, inv .short);
     }
 
@@ -549,8 +549,8 @@ value-block-returns-in-Break-inner t c =
     let q = err-from-errBy (c .from-residual .result) (c .from-residual .ensures .1) in
     rw (q .1, q .2) (record {
       answer = λ b l.
-        let v = value-block-at (c .args .nodes .now) (c .args .i) b l in
-        ap (λ d. walkValueBlock (seen (c .args .nodes .now) (c .args .names .now) (c .args .level)) d (c .args .set .now .set) (live (c .args .code .now))) (v .3) ∙ breaks _ (c .in-Break-inner .ensures tt .answer (v .1) (final (v .2)) (subst (λ k. LaysAll (ofStatements (v .1) (ofFinal (final (v .2)))) (c .args .nodes .now) ((c .args .i) + 1) k) (sym (c .end-of-stop .ensures)) (v .4 .5)) .0);
+          let v = value-block-at (c .args .nodes .now) (c .args .i) b l in
+          ap (λ d. walkValueBlock (seen (c .args .nodes .now) (c .args .names .now) (c .args .level)) d (c .args .set .now .set) (live (c .args .code .now))) (v .3) ∙ breaks _ (c .in-Break-inner .ensures tt .answer (v .1) (final (v .2)) (subst (λ k. LaysAll (ofStatements (v .1) (ofFinal (final (v .2)))) (c .args .nodes .now) ((c .args .i) + 1) k) (sym (c .end-of-stop .ensures)) (v .4 .5)) .0);
       room = tt;
     })
 
@@ -569,11 +569,10 @@ value-block-returns t c =
     let n = c .in-Continue-inner .ensures tt .answer (v .1) (final (v .2)) (subst (λ k. LaysAll (ofStatements (v .1) (ofFinal (final (v .2)))) (c .args .nodes .now) ((c .args .i) + 1) k) (sym (c .end-of-stop .ensures)) (v .4 .5)) .1 in
     record {
       answer = λ b l.
-        let v = value-block-at (c .args .nodes .now) (c .args .i) b l in
-        let r = c .in-Continue-inner .ensures tt .answer (v .1) (final (v .2)) (subst (λ k. LaysAll (ofStatements (v .1) (ofFinal (final (v .2)))) (c .args .nodes .now) ((c .args .i) + 1) k) (sym (c .end-of-stop .ensures)) (v .4 .5)) in
-        gave-same (λ u. u) (c .expression .result) (c .expression .last .code)
-        (ap (λ d. walkValueBlock (seen (c .args .nodes .now) (c .args .names .now) (c .args .level)) d (c .args .set .now .set) (live (c .args .code .now))) (v .3) ∙ goes _ (r .0)) (c .expression .ensures .answer (v .2) (r .1 .0));
+          let v = value-block-at (c .args .nodes .now) (c .args .i) b l in
+          let r = c .in-Continue-inner .ensures tt .answer (v .1) (final (v .2)) (subst (λ k. LaysAll (ofStatements (v .1) (ofFinal (final (v .2)))) (c .args .nodes .now) ((c .args .i) + 1) k) (sym (c .end-of-stop .ensures)) (v .4 .5)) in
+          gave-same (λ u. u) (c .expression .result) (c .expression .last .code)
+          (ap (λ d. walkValueBlock (seen (c .args .nodes .now) (c .args .names .now) (c .args .level)) d (c .args .set .now .set) (live (c .args .code .now))) (v .3) ∙ goes _ (r .0)) (c .expression .ensures .answer (v .2) (r .1 .0));
       room = grew-inner (c .expression .result) (c .args .nodes .now) (c .args .code .now .len) (c .statements .last .code .len) (c .expression .last .code .len) (c .args .i) (c .in-Continue-inner .last) (endAt (c .args .nodes .now) (c .args .i))
-        (c .in-Continue-inner .ensures tt .room .0) (c .in-Continue-inner .ensures tt .room .1) (c .in-Continue-inner .ensures tt .room .2) (n .1 ∙ c .end-of-stop .ensures) (c .expression .ensures .room);
+          (c .in-Continue-inner .ensures tt .room .0) (c .in-Continue-inner .ensures tt .room .1) (c .in-Continue-inner .ensures tt .room .2) (n .1 ∙ c .end-of-stop .ensures) (c .expression .ensures .room);
     }
-
