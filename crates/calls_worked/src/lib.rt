@@ -1,4 +1,6 @@
 // Lists of calls worked out by hand, which the definitions of the calls must come to. No code of the engine runs here.
+#![tactic(auto)]
+
 ghost use Rattle.calls_worked.specs.Cases as cases;
 ghost use Rattle.calls_worked.specs.Lists.{CutAsYouLike, TooFewCells, LeftoversMakeNoDifference};
 ghost use Rattle.calls_worked.specs.Sample.{Worked};

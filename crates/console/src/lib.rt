@@ -1,4 +1,6 @@
 // The calls of a script, played on a work area and a host, and answered line by line.
+#![tactic(auto)]
+
 mod reading;
 pub mod run;
 mod session;

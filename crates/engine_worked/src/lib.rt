@@ -1,4 +1,6 @@
 // Lists of calls worked out by hand, which the definitions of the calls must come to.
+#![tactic(auto)]
+
 ghost use Rattle.engine_worked.specs.Lists.{Worked};
 
 // How many statements the list has.

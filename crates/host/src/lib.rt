@@ -1,4 +1,6 @@
 // What a run asks of the declaration it is run for: fields by number, and charges to accounts.
+#![tactic(auto)]
+
 ghost use Rattle.std.specs.Prelude.{◌≡◌};
 ghost use Rattle.host.specs.Meaning.{Meaning, asked, answered, left, posting};
 

@@ -1,4 +1,6 @@
 // What the two hosts answer at their bounds, run.
+#![tactic(auto)]
+
 #[cfg(test)]
 mod records;
 #[cfg(test)]

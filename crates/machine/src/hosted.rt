@@ -42,7 +42,7 @@ impl Machine {
         host: &H,
     ) -> Result<Flow, Halt>
         requires { Ready self.old frame cells.old }
-        ensures state { Does (amount_asked (means host.now) frame) self.old cells.old result self.new cells.new }
+        ensures state { Does (amount_asked (H.means host.now) frame) self.old cells.old result self.new cells.new }
         ensures bound { self.new.top ≤ length cells.new }
     {
         let field = self.field(cells, frame)?;
@@ -60,7 +60,7 @@ impl Machine {
         host: &H,
     ) -> Result<Flow, Halt>
         requires { Ready self.old frame cells.old }
-        ensures state { Does (flag_asked (means host.now) frame) self.old cells.old result self.new cells.new }
+        ensures state { Does (flag_asked (H.means host.now) frame) self.old cells.old result self.new cells.new }
         ensures bound { self.new.top ≤ length cells.new }
     {
         let field = self.field(cells, frame)?;
@@ -78,7 +78,7 @@ impl Machine {
         host: &mut H,
     ) -> Result<Flow, Halt>
         requires { Ready self.old frame cells.now }
-        ensures state { LeftPosted (posted (means host.old) frame (state self.old cells.now)) result (state self.old cells.now) (means host.old) self.new cells.now (means host.new) }
+        ensures state { LeftPosted (posted (H.means host.old) frame (state self.old cells.now)) result (state self.old cells.now) (H.means host.old) self.new cells.now (H.means host.new) }
         ensures bound { self.new.top ≤ length cells.now }
     {
         if self.top - frame.end < 2 {

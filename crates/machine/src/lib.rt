@@ -1,4 +1,6 @@
 // The marked machine: cells that know what they hold, frames, one step, and a run with an allowance.
+#![tactic(auto)]
+
 pub mod begin;
 pub mod calls;
 pub mod cells;

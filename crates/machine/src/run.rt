@@ -19,7 +19,7 @@ impl Machine {
         allowance: u32,
     ) -> Ran
         requires { (2 + 2 * header.count ≤ length words.now) × ((self.old.top ≤ length cells.old) × (length cells.old ≤ 65536)) }
-        ensures run { IsRun (ran words.now header allowance (means host.old) (state self.old cells.old)) result self.new cells.new (means host.new) }
+        ensures run { IsRun (ran words.now header allowance (H.means host.old) (state self.old cells.old)) result self.new cells.new (H.means host.new) }
         ensures bound { self.new.top ≤ length cells.new }
         ensures most { result.steps ≤ allowance }
     {

@@ -51,7 +51,7 @@ impl Machine {
         host: &mut H,
     ) -> Result<Flow, Halt>
         requires { Ready self.old frame cells.old }
-        ensures state { LeftStep (carried instruction res frame (means host.old) (state self.old cells.old)) result (state self.old cells.old) (means host.old) self.new cells.new (means host.new) }
+        ensures state { LeftStep (carried instruction res frame (H.means host.old) (state self.old cells.old)) result (state self.old cells.old) (H.means host.old) self.new cells.new (H.means host.new) }
         ensures bound { self.new.top ≤ length cells.new }
     {
         match instruction {
@@ -76,7 +76,7 @@ impl Machine {
         host: &mut H,
     ) -> Result<Flow, Halt>
         requires { (2 + 2 * header.count ≤ length words.now) × ((self.old.top ≤ length cells.old) × (length cells.old ≤ 65536)) }
-        ensures state { LeftStep (stepped words.now header (means host.old) (state self.old cells.old)) result (state self.old cells.old) (means host.old) self.new cells.new (means host.new) }
+        ensures state { LeftStep (stepped words.now header (H.means host.old) (state self.old cells.old)) result (state self.old cells.old) (H.means host.old) self.new cells.new (H.means host.new) }
         ensures bound { self.new.top ≤ length cells.new }
     {
         let instruction = header.fetch(words, self.counter)?;

@@ -1,4 +1,6 @@
 // Tests of the marked machine: each instruction in each of its ends, and whole runs.
+#![tactic(auto)]
+
 #[cfg(test)]
 mod beginnings;
 #[cfg(test)]

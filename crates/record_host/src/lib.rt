@@ -1,4 +1,6 @@
 // A host that answers from a declaration record, a row of 32-bit words.
+#![tactic(auto)]
+
 pub mod check;
 pub mod checked;
 mod read;

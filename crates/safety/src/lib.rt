@@ -1,4 +1,6 @@
 // Safety: evaluation of a rule set that the typing rules admit is never in trouble, and what it resolves to is lawful. No code of the engine runs here; its functions name what is proved of the definitions.
+#![tactic(auto)]
+
 ghost use Rattle.safety.specs.Safety.{Safe};
 ghost use Rattle.safety.specs.Lawful.{LawfulWhereTyped};
 

@@ -1,4 +1,6 @@
 // The lines of a script: their words, their numbers, and the commands that they write.
+#![tactic(auto)]
+
 pub mod command;
 pub mod line;
 pub mod nodes;

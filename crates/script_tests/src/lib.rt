@@ -1,4 +1,6 @@
 // Lines of scripts, read.
+#![tactic(auto)]
+
 #[cfg(test)]
 mod lines;
 #[cfg(test)]

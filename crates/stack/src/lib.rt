@@ -1,4 +1,6 @@
 // The marked machine without what lies above its top. No code of the engine runs here; its functions name what is proved of the two forms.
+#![tactic(auto)]
+
 ghost use Rattle.stack.specs.Law.{StepIsTheStacks, StepOfAnyState, RunIsTheStacks, RunOfAnyState, StatesAreWhole, BeginningIsTheStacks, AboveDoesNotMatter, LeftoversDoNotMatter};
 
 // One step on whole cells is one on the stack: the same answer, and the cells are the new stack laid over the old ones.

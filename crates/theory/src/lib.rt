@@ -1,4 +1,6 @@
 // What is proved of evaluation and of the machine: an image's run is its rule set's evaluation. No code of the engine runs here; each function names in its contract what is proved of the definitions.
+#![tactic(auto)]
+
 ghost use Rattle.theory.specs.Runs.{DeeperSame, FinishesAsEvaluated, StopsAsEvaluated, TooDeepRunsOut, EndedStays, SomeAllowanceEnds, EndedAsEvaluated};
 
 // Deeper calls change no outcome of evaluation but 'too deep'.

@@ -1,4 +1,6 @@
 // The names of the codes, for people.
+#![tactic(auto)]
+
 ghost use Rattle.std.specs.Prelude.{◌≡◌};
 ghost use Rattle.trace.specs.Names.{name_of};
 

@@ -1,4 +1,6 @@
 // The walk over a well-formed table: expressions and statements, their names, types and code.
+#![tactic(auto)]
+
 pub mod codes;
 pub mod emitting;
 pub mod flags;

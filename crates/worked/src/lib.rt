@@ -1,4 +1,6 @@
 // Runs worked out by hand, which the definitions of the marked machine must come to.
+#![tactic(auto)]
+
 ghost use Rattle.worked.specs.Runs.{Worked};
 
 // How many runs the list has.

@@ -1,4 +1,6 @@
 // Rule sets worked out by hand, which evaluation and the runs of their images must come to.
+#![tactic(auto)]
+
 ghost use Rattle.worked_rules.specs.Samples.{Worked};
 
 // What each rule set evaluates to, and how its run ends.

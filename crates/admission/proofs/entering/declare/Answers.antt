@@ -10,21 +10,21 @@ use Rattle.admission.proofs.Entered.{one_more, ready-more, below_stays}
 use Rattle.admission.proofs.entering.declare.Goals as goal
 
 pub enter-flags-requires : goal.enter-flags-requires
-enter-flags-requires c = (c.requires.whole, c.in-ok-must-have-room.ensures.room)
+enter-flags-requires c = (c.requires.whole, c.in_ok-must_have_room.ensures.room)
 
 pub overflow-add-result : goal.overflow-add-result
-overflow-add-result c = omega (arith, c.in-ok-must-have-room.ensures.room, c.requires.slots)
+overflow-add-result c = omega (arith, c.in_ok-must_have_room.ensures.room, c.requires.slots)
 
 pub returns : goal.returns
 returns c =
-    let h = c.in-ok-must-have-room.ensures.room in
+    let h = c.in_ok-must_have_room.ensures.room in
     let frame : Frame = record { floor = c.args.frame.now.floor; slots = c.args.frame.now.slots + 1; flags = c.enter-flags.result } in
-    let entry : Entry = record { name = c.args.node.value; level = c.args.scope.now.level; what = Variable c.type-of.result c.args.frame.now.slots } in
+    let entry : Entry = record { name = c.args.node.value; level = c.args.scope.now.level; what = Variable c.type_of.result c.args.frame.now.slots } in
     record {
       answer = λ table.
-          goes _ (sym (c.in-ok-must-be-new.ensures table)) ∙ goes _ (sym (c.in-ok-must-have-room.ensures.answer table)) ∙
+          goes _ (sym (c.in_ok-must_be_new.ensures table)) ∙ goes _ (sym (c.in_ok-must_have_room.ensures.answer table)) ∙
           ap Ok
-          (ap (λ t. with_variable (scope_of table c.args.names.now c.args.scope.now c.args.frame.now) c.args.node.value t c.args.flag) (sym c.type-of.ensures) ∙
+          (ap (λ t. with_variable (scope_of table c.args.names.now c.args.scope.now c.args.frame.now) c.args.node.value t c.args.flag) (sym c.type_of.ensures) ∙
           sym (one_more table c.args.names.now c.args.scope.now c.args.frame.now c.enter-flags.new.names c.enter-flags.new.scope frame entry c.args.flag c.requires h c.enter-flags.ensures.names c.enter-flags.ensures.scope refl c.enter-flags.ensures.flags));
       widened = (
         omega (arith, ap (λ x. x.height) c.enter-flags.ensures.scope),

@@ -5,15 +5,15 @@ use Rattle.machine.specs.Frames.{at, present_at}
 use Rattle.machine.proofs.Times.{times_goes, times-halts}
 use Rattle.machine.proofs.calls.all_present.Goals as goal
 
-pub returns-in-err-present : goal.returns-in-err-present
-returns-in-err-present c =
+pub returns-in_err-present : goal.returns-in_err-present
+returns-in_err-present c =
     let p = err_from_is_err_and c.from-residual.result c.from-residual.ensures.1 in
     let less : c.loop.counter < c.args.count = omega arith in
-    let halts = ap (λ r. bind r (λ _. Ok (c.loop.place + 1))) (sym c.in-err-present.ensures) in
+    let halts = ap (λ r. bind r (λ _. Ok (c.loop.place + 1))) (sym c.in_err-present.ensures) in
     rw (p.1, p.2) (sym (c.loop.invariant.1 ∙ times-halts (present_at (at c.args.cells.now)) _ _ _ less _ halts))
 
 pub loop-preserved : goal.loop-preserved
 loop-preserved c =
     let less : c.loop.counter < c.args.count = omega arith in
-    let goes = ap (λ r. bind r (λ _. Ok (c.loop.place + 1))) (sym c.in-ok-present.ensures) in
+    let goes = ap (λ r. bind r (λ _. Ok (c.loop.place + 1))) (sym c.in_ok-present.ensures) in
     (omega (arith, c.loop.invariant.0), c.loop.invariant.1 ∙ times_goes (present_at (at c.args.cells.now)) _ _ _ less _ goes)

@@ -10,11 +10,11 @@ pub returns-then-next-at : goal.returns-then-next-at
 returns-then-next-at c =
     decides-no _ refl (λ ch. let s = one_more _ _ _ _ c.loop-at-test.true (c.loop-at.invariant.0 ch) in omega arith)
 
-pub returns-in-default : goal.returns-in-default
-returns-in-default c =
+pub returns-in_default : goal.returns-in_default
+returns-in_default c =
     decides-no _ refl (λ ch.
     let e : after c.loop-at.left (class_at c.args.nodes.now c.loop-at.at) ≡ None =
-    sym (ap (after c.loop-at.left) c.class.ensures) ∙ sym c.after.ensures ∙ c.in-default.is in
+    sym (ap (after c.loop-at.left) c.class.ensures) ∙ sym c.after.ensures ∙ c.in_default.is in
     class-refused _ _ _ _ c.loop-at-test.true e (c.loop-at.invariant.0 ch))
 
 pub loop-at-preserved : goal.loop-at-preserved
@@ -28,7 +28,7 @@ loop-at-preserved c =
 pub returns-then-at-stop : goal.returns-then-at-stop
 returns-then-at-stop c =
     Decides-like _ c.loop-at.invariant.1 c.loop-at.invariant.0
-    (at-stop c.args.nodes.now c.args.stop c.loop-at.left c.loop-at.at _ c.is-complete.ensures (omega arith))
+    (at-stop c.args.nodes.now c.args.stop c.loop-at.left c.loop-at.at _ c.is_complete.ensures (omega arith))
 
 pub returns-else-at-stop : goal.returns-else-at-stop
 returns-else-at-stop c =

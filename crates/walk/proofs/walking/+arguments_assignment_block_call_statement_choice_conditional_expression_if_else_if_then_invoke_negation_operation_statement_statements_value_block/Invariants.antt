@@ -12,8 +12,8 @@ decreases-assignment l = 4 * (length l.nodes.now - l.i)
 abbrev pub decreases-block : goal.decreases-block
 decreases-block l = 4 * (length l.nodes.now - l.i)
 
-abbrev pub decreases-call-statement : goal.decreases-call-statement
-decreases-call-statement l = 4 * (length l.nodes.now - l.i) + 1
+abbrev pub decreases-call_statement : goal.decreases-call_statement
+decreases-call_statement l = 4 * (length l.nodes.now - l.i) + 1
 
 abbrev pub decreases-choice : goal.decreases-choice
 decreases-choice l = 4 * (length l.nodes.now - l.i)
@@ -24,11 +24,11 @@ decreases-conditional l = 4 * (length l.nodes.now - l.i) + 1
 abbrev pub decreases-expression : goal.decreases-expression
 decreases-expression l = 4 * (length l.nodes.now - l.i) + 1
 
-abbrev pub decreases-if-else : goal.decreases-if-else
-decreases-if-else l = 4 * (length l.nodes.now - l.i)
+abbrev pub decreases-if_else : goal.decreases-if_else
+decreases-if_else l = 4 * (length l.nodes.now - l.i)
 
-abbrev pub decreases-if-then : goal.decreases-if-then
-decreases-if-then l = 4 * (length l.nodes.now - l.i)
+abbrev pub decreases-if_then : goal.decreases-if_then
+decreases-if_then l = 4 * (length l.nodes.now - l.i)
 
 abbrev pub decreases-invoke : goal.decreases-invoke
 decreases-invoke l = 4 * (length l.nodes.now - l.i)
@@ -45,8 +45,8 @@ decreases-statement l = 4 * (length l.nodes.now - l.i) + 2
 abbrev pub decreases-statements : goal.decreases-statements
 decreases-statements l = 4 * (length l.nodes.now - l.from) + 3
 
-abbrev pub decreases-value-block : goal.decreases-value-block
-decreases-value-block l = 4 * (length l.nodes.now - l.i)
+abbrev pub decreases-value_block : goal.decreases-value_block
+decreases-value_block l = 4 * (length l.nodes.now - l.i)
 
 abbrev pub invariant-arguments-loop-at : goal.invariant-arguments-loop-at
 invariant-arguments-loop-at l =

@@ -7,20 +7,20 @@ use Rattle.engine.specs.Admit.{AdmitGave, image_of}
 use Rattle.engine.proofs.Admits.{image-length, admit-refused, admit-full, admit-done, typed-refused, typed-full, typed-done}
 use Rattle.engine.proofs.record.Record.admit.Goals as goal
 
-pub returns-in-err-result : goal.returns-in-err-result
-returns-in-err-result c =
+pub returns-in_err-result : goal.returns-in_err-result
+returns-in_err-result c =
     let q = err_from_is_err_and c.from-residual.result c.from-residual.ensures.1 in
-    let j = c.in-err-result.ensures.verdict in
+    let j = c.in_err-result.ensures.verdict in
     rw (q.1, q.2) (record {
-      gave = admit-refused c.args.nodes.now (area c.args.buffer.now c.args.cells.now c.args.self.now.stage) c.in-err-result.field-0.0 j;
-      typed = typed-refused c.args.nodes.now c.args.buffer.now c.in-err-result.field-0.0 j;
+      gave = admit-refused c.args.nodes.now (area c.args.buffer.now c.args.cells.now c.args.self.now.stage) c.in_err-result.field-0.0 j;
+      typed = typed-refused c.args.nodes.now c.args.buffer.now c.in_err-result.field-0.0 j;
     })
 
 pub returns-then-buffer-words : goal.returns-then-buffer-words
 returns-then-buffer-words c =
-    let j = c.in-ok-result.ensures.verdict in
+    let j = c.in_ok-result.ensures.verdict in
     let code = live c.decide.new.code in
-    let t = c.in-ok-result.result in
+    let t = c.in_ok-result.result in
     let size : 2 + 2 * c.next-count.result ≡ length (image_of t code) = ap (λ n. 2 + 2 * n) c.next-count.ensures.code ∙ sym (image-length t code) in
     let short : length c.args.buffer.now < length (image_of t code) = omega (arith, c.if-buffer-words.true, size) in
     record {
@@ -31,14 +31,14 @@ returns-then-buffer-words c =
 
 pub returns : goal.returns
 returns c =
-    let j = c.in-ok-result.ensures.verdict in
+    let j = c.in_ok-result.ensures.verdict in
     let code = live c.decide.new.code in
-    let t = c.in-ok-result.result in
+    let t = c.in_ok-result.result in
     let size : 2 + 2 * c.next-count.result ≡ length (image_of t code) = ap (λ n. 2 + 2 * n) c.next-count.ensures.code ∙ sym (image-length t code) in
     let room : length (image_of t code) ≤ length c.args.buffer.now = omega (arith, c.if-buffer-words.false, size) in
     record {
-      gave = admit-done c.args.nodes.now (area c.args.buffer.now c.args.cells.now c.args.self.now.stage) t code j (2 + 2 * c.next-count.result) c.write-image.new.buffer _ room size c.write-image.ensures
+      gave = admit-done c.args.nodes.now (area c.args.buffer.now c.args.cells.now c.args.self.now.stage) t code j (2 + 2 * c.next-count.result) c.write_image.new.buffer _ room size c.write_image.ensures
           (ap (λ n. Ready (record { image = record { header = record { count = n; result = t }; others = c.others.result }; buffer = length c.args.buffer.now; cells = length c.args.cells.now })) c.next-count.ensures.code ∙
           ap (λ n. Ready (record { image = record { header = record { count = length code; result = t }; others = n }; buffer = length c.args.buffer.now; cells = length c.args.cells.now })) c.others.ensures);
-      typed = typed-done c.args.nodes.now c.args.buffer.now t code j (2 + 2 * c.next-count.result) c.write-image.new.buffer size (omega (arith, c.if-buffer-words.false)) c.write-image.ensures;
+      typed = typed-done c.args.nodes.now c.args.buffer.now t code j (2 + 2 * c.next-count.result) c.write_image.new.buffer size (omega (arith, c.if-buffer-words.false)) c.write_image.ensures;
     }

@@ -13,8 +13,8 @@ bounded sums i b d z inside before wider here a =
       | inr other ↦ rw (get_or-set_other sums i a z (pos 0) other) (omega (arith, before a))
     ]
 
-pub invariant-of-totals : goal.invariant-of-totals
-invariant-of-totals c = (
+pub invariant_of-totals : goal.invariant_of-totals
+invariant_of-totals c = (
   simp length-set (search rules),
   (
     search rules,

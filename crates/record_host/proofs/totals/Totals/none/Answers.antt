@@ -10,5 +10,5 @@ zeros (suc n) (suc a) = zeros n a
 pub returns : goal.returns
 returns c = record { sums = zeros 256; left = refl }
 
-pub invariant-of-result : goal.invariant-of-result
-invariant-of-result c = (refl, (search rules, (λ a. omega (arith, ap nat_abs (zeros 256 a)), tt)))
+pub invariant_of-result : goal.invariant_of-result
+invariant_of-result c = (refl, (search rules, (λ a. omega (arith, ap nat_abs (zeros 256 a)), tt)))

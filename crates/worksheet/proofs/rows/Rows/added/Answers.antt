@@ -2,7 +2,7 @@ use Rattle.std.proofs.Common.{arith, length-set, rules}
 use Rattle.worksheet.proofs.Entries.{apart-added}
 use Rattle.worksheet.proofs.rows.Rows.added.Goals as goal
 
-pub invariant-of-rows : goal.invariant-of-rows
-invariant-of-rows c =
+pub invariant_of-rows : goal.invariant_of-rows
+invariant_of-rows c =
     let rows = c.args.self in
     (simp length-set (omega arith), (search rules, (apart-added rows.places rows.filled c.args.row (omega arith) c.requires.1 rows.apart, tt)))

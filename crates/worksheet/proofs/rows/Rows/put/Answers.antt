@@ -15,11 +15,11 @@ unnamed : (rows : List Row) (n key k : ℕ)
     → key ≡ k → ((i : ℕ) → i < n → key_of (get_or rows i blank) ≡ key → ⊥) → (i : ℕ) → i < n → key_of (get_or rows i blank) ≡ k → ⊥
 unnamed rows n key k same none i inside is = none i inside (is ∙ sym same)
 
-pub returns-then-is-full : goal.returns-then-is-full
-returns-then-is-full c =
+pub returns-then-is_full : goal.returns-then-is_full
+returns-then-is_full c =
     let rows = c.args.self in
     let none = unnamed rows.places rows.filled c.key.result (key_of c.args.row) c.key.ensures c.in-None.ensures in
-    (refl, eqb-true rows.filled 64 (sym c.is-full.ensures ∙ c.if-is-full.true), entry-none rows.places rows.filled (key_of c.args.row) (omega arith) none)
+    (refl, eqb-true rows.filled 64 (sym c.is_full.ensures ∙ c.if-is_full.true), entry-none rows.places rows.filled (key_of c.args.row) (omega arith) none)
 
 pub returns-in-Some : goal.returns-in-Some
 returns-in-Some c =
@@ -32,8 +32,8 @@ returns-in-Some c =
     let filled = c.replaced.ensures.filled in
     ((λ key. alike key _ _ _ _ filled places ∙ entry-replaced rows.places rows.filled c.in-Some.i row key found.0 (omega arith) is rows.apart), filled ∙ sym (ap (λ o. grown o rows.filled) some))
 
-pub returns-else-is-full : goal.returns-else-is-full
-returns-else-is-full c =
+pub returns-else-is_full : goal.returns-else-is_full
+returns-else-is_full c =
     let rows = c.args.self in
     let row = c.args.row in
     let none = unnamed rows.places rows.filled c.key.result (key_of row) c.key.ensures c.in-None.ensures in
