@@ -8,8 +8,26 @@ definition.
 import glob
 import re
 
-WORDS = {'in-ok': 'in_ok', 'in-err': 'in_err', 'in-default': 'in_default', 'invariant-of': 'invariant_of'}
+WORDS = {
+    'in-ok': 'in_ok',
+    'in-err': 'in_err',
+    'in-default': 'in_default',
+    'invariant-of': 'invariant_of',
+    'from-residual': 'from_residual',
+    'as-slice': 'as_slice',
+    'as-bytes': 'as_bytes',
+    'as-str': 'as_str',
+    'overflow-add': 'overflow_add',
+    'overflow-sub': 'overflow_sub',
+    'overflow-mul': 'overflow_mul',
+    'overflow-cast': 'overflow_cast',
+    'overflow-step': 'overflow_step',
+    'offset-bounds': 'offset_bounds',
+    'slice-bounds': 'slice_bounds',
+}
 PART = re.compile(r"(?<=\.)[A-Za-z_][A-Za-z0-9_']*(?:-[A-Za-z0-9_']+)+|^(?:abbrev pub |pub )?[a-z_][A-Za-z0-9_']*(?:-[A-Za-z0-9_']+)+", re.M)
+WAY = re.compile(r"(?:then|else|in)-[A-Za-z0-9_'+-]+")
+BROUGHT = re.compile(r"^use [\w.+]+\.Goals\.\{.*\}$", re.M)
 
 
 def identifiers(crate):
@@ -34,6 +52,8 @@ def main():
                 continue
             text = open(path).read()
             after = PART.sub(lambda m: turned(m.group(0), names), text)
+            after = WAY.sub(lambda m: turned(m.group(0), names), after)
+            after = BROUGHT.sub(lambda m: turned(m.group(0), names), after)
             if after != text:
                 open(path, 'w').write(after)
 

@@ -7,7 +7,7 @@ use Rattle.admission.proofs.deciding.decide.Goals as goal
 
 pub returns-in_err-check : goal.returns-in_err-check
 returns-in_err-check c =
-    let q = err_from_is_err_and c.from-residual.result c.from-residual.ensures.1 in
+    let q = err_from_is_err_and c.from_residual.result c.from_residual.ensures.1 in
     rw (q.1, q.2) (record {
       verdict = refused_table c.in_err-check.field-0.0 c.in_err-check.ensures;
       bare = c.clear.ensures.code;

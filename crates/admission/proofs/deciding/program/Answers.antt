@@ -20,7 +20,7 @@ inside-requires c =
 
 pub returns-in_err-result : goal.returns-in_err-result
 returns-in_err-result c =
-    let q = err_from_is_err_and c.from-residual.result c.from-residual.ensures.1 in
+    let q = err_from_is_err_and c.from_residual.result c.from_residual.ensures.1 in
     let scope : Scope = record { height = 3; level = 0 } in
     let frame : Frame = record { floor = 3; slots = 0; flags = c.none.result } in
     rw (q.1, q.2)

@@ -32,8 +32,8 @@ use Rattle.admission.proofs.Progress.{is-declaration, no-declaration, body-ahead
 use Rattle.admission.proofs.Turns.{function-entered, enclosed-refused, enclosed-on, kept_on, grew-enclosed, body_at, body_refused, body-judged, inner-is, function-deep, function-refused, function-done, a-function, a-variable, gave-scoped, same-scoped, grew_none, scope_kept}
 use Rattle.admission.proofs.declaring.+body_declaration_declarations_enclosed_function_inside.Goals as goal
 
-pub body-overflow-add-i : goal.body-overflow-add-i
-body-overflow-add-i t c =
+pub body-overflow_add-i : goal.body-overflow_add-i
+body-overflow_add-i t c =
     let h = lays-here (of_body c.requires.tree.0) c.args.nodes.now c.args.i c.requires.tree.1 in search rules
 
 pub body-inside-requires : goal.body-inside-requires
@@ -45,7 +45,7 @@ body-inside-requires t c =
 
 pub body-returns-in_err-found : goal.body-returns-in_err-found
 body-returns-in_err-found t c =
-    let q = err_from_is_err_and c.from-residual.result c.from-residual.ensures.1 in
+    let q = err_from_is_err_and c.from_residual.result c.from_residual.ensures.1 in
     rw (q.1, q.2) (record {
       answer = body_refused c.args.nodes.now c.args.i (scope_of c.args.nodes.now c.args.names.now c.args.scope.now c.args.frame.now) (live c.args.code.now) c.args.res c.in_err-found.field-0.0
           (λ ds ss z l. c.in_err-found.ensures.answer ds ss z (subst (λ k. LaysAll (of_declarations ds (of_statements ss (of_final z))) c.args.nodes.now (c.args.i + 1) k) (sym c.end_of-stop.ensures) l));
@@ -139,7 +139,7 @@ declarations-declaration-requires t c =
 
 pub declarations-returns-in_err-grown : goal.declarations-returns-in_err-grown
 declarations-returns-in_err-grown t c =
-    let q = err_from_is_err_and c.from-residual.result c.from-residual.ensures.1 in
+    let q = err_from_is_err_and c.from_residual.result c.from_residual.ensures.1 in
     let e = is-declaration (class_at c.args.nodes.now c.loop-at.at) (ap (λ n. is_declaration (class_or (kind_at n.kind))) (sym c.node_at.ensures) ∙ sym c.is_declaration.ensures ∙ c.if-not-is_declaration.false) in
     rw (q.1, q.2) (record {
       answer = λ ds ss z l.
@@ -164,8 +164,8 @@ declarations-returns t c =
       widened = (inv.widened, inv.grows, inv.room, inv.behind, inv.short);
     }
 
-pub enclosed-overflow-add-i : goal.enclosed-overflow-add-i
-enclosed-overflow-add-i t c =
+pub enclosed-overflow_add-i : goal.enclosed-overflow_add-i
+enclosed-overflow_add-i t c =
     let l = c.requires.tree in
     let h = body-ahead c.args.nodes.now (c.args.i + 1) (end_at c.args.nodes.now c.args.i) l.0 l.1 l.2 in search rules
 
@@ -179,7 +179,7 @@ enclosed-parameters-requires t c =
 
 pub enclosed-returns-in_err-grown : goal.enclosed-returns-in_err-grown
 enclosed-returns-in_err-grown t c =
-    let q = err_from_is_err_and c.from-residual.result c.from-residual.ensures.1 in
+    let q = err_from_is_err_and c.from_residual.result c.from_residual.ensures.1 in
     rw (q.1, q.2) (record {
       answer = enclosed-refused c.args.nodes.now c.args.names.now c.args.scope.now c.args.frame.now c.args.code.now c.args.i c.args.res c.requires.ready c.in_err-grown.field-0.0
           (λ qs b l. (c.in_err-grown.ensures.answer qs b (subst (λ k. LaysAll (of_parameters qs (cons (of_body b) nil)) c.args.nodes.now (c.args.i + 1) k) (sym c.end_of-stop.ensures) l)).0);
@@ -213,7 +213,7 @@ enclosed-returns t c =
 
 pub function-returns-in_err-must_be_shallow : goal.function-returns-in_err-must_be_shallow
 function-returns-in_err-must_be_shallow t c =
-    let q = err_from_is_err_and c.from-residual-in_err-must_be_shallow.result c.from-residual-in_err-must_be_shallow.ensures.1 in
+    let q = err_from_is_err_and c.from_residual-in_err-must_be_shallow.result c.from_residual-in_err-must_be_shallow.ensures.1 in
     rw (q.1, q.2) (record {
       answer = function-deep c.args.nodes.now c.args.i c.node_at-node.result c.node_at-node.ensures (scope_of c.args.nodes.now c.args.names.now c.args.scope.now c.args.frame.now) (live c.args.code.now)
           (sym (c.in_ok-must_be_new.ensures c.args.nodes.now)) (sym (c.in_ok-must_have_room.ensures.answer c.args.nodes.now)) c.in_err-must_be_shallow.field-0.0 (sym (c.in_err-must_be_shallow.ensures.answer (scope_of c.args.nodes.now c.args.names.now c.args.scope.now c.args.frame.now) refl));
@@ -239,7 +239,7 @@ function-enclosed-requires t c =
 
 pub function-returns-in_err-enclosed : goal.function-returns-in_err-enclosed
 function-returns-in_err-enclosed t c =
-    let q = err_from_is_err_and c.from-residual-in_err-enclosed.result c.from-residual-in_err-enclosed.ensures.1 in
+    let q = err_from_is_err_and c.from_residual-in_err-enclosed.result c.from_residual-in_err-enclosed.ensures.1 in
     let frame : Frame = record { floor = c.args.frame.now.floor; slots = c.args.frame.now.slots; flags = c.enter-flags.result } in
     rw (q.1, q.2) (record {
       answer = function-refused c.args.nodes.now c.args.i c.node_at-node.result c.node_at-node.ensures (scope_of c.args.nodes.now c.args.names.now c.args.scope.now c.args.frame.now) (live c.args.code.now)
@@ -296,5 +296,5 @@ function-returns t c =
       room = (omega (arith, g.0, c.emit.ensures.length, c.emit-2.ensures.length, c.aim.ensures.length), omega (arith, g.1, c.emit.ensures.length, c.emit-2.ensures.length, c.aim.ensures.length), m, k);
     }
 
-pub inside-overflow-sub-grown : goal.inside-overflow-sub-grown
-inside-overflow-sub-grown t c = c.in_ok-grown.ensures.widened.0.4
+pub inside-overflow_sub-grown : goal.inside-overflow_sub-grown
+inside-overflow_sub-grown t c = c.in_ok-grown.ensures.widened.0.4

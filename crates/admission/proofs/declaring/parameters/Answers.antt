@@ -29,7 +29,7 @@ declare-requires c = c.loop-at.invariant.widened.1
 
 pub returns-in_err-grown : goal.returns-in_err-grown
 returns-in_err-grown c =
-    let q = err_from_is_err_and c.from-residual.result c.from-residual.ensures.1 in
+    let q = err_from_is_err_and c.from_residual.result c.from_residual.ensures.1 in
     let e = is-parameter (class_at c.args.nodes.now c.loop-at.at) (ap (λ n. is_parameter (class_or (kind_at n.kind))) (sym c.node_at-node.ensures) ∙ sym c.is_parameter.ensures ∙ c.if-not-is_parameter.false) in
     rw (q.1, q.2) (record {
       answer = λ qs b l.

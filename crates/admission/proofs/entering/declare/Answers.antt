@@ -12,8 +12,8 @@ use Rattle.admission.proofs.entering.declare.Goals as goal
 pub enter-flags-requires : goal.enter-flags-requires
 enter-flags-requires c = (c.requires.whole, c.in_ok-must_have_room.ensures.room)
 
-pub overflow-add-result : goal.overflow-add-result
-overflow-add-result c = omega (arith, c.in_ok-must_have_room.ensures.room, c.requires.slots)
+pub overflow_add-result : goal.overflow_add-result
+overflow_add-result c = omega (arith, c.in_ok-must_have_room.ensures.room, c.requires.slots)
 
 pub returns : goal.returns
 returns c =

@@ -7,7 +7,7 @@ use Rattle.machine.proofs.calls.all_present.Goals as goal
 
 pub returns-in_err-present : goal.returns-in_err-present
 returns-in_err-present c =
-    let p = err_from_is_err_and c.from-residual.result c.from-residual.ensures.1 in
+    let p = err_from_is_err_and c.from_residual.result c.from_residual.ensures.1 in
     let less : c.loop.counter < c.args.count = omega arith in
     let halts = ap (λ r. bind r (λ _. Ok (c.loop.place + 1))) (sym c.in_err-present.ensures) in
     rw (p.1, p.2) (sym (c.loop.invariant.1 ∙ times-halts (present_at (at c.args.cells.now)) _ _ _ less _ halts))

@@ -7,7 +7,7 @@ use Rattle.script.proofs.line.all_words.Goals as goal
 
 pub returns-in_err-number : goal.returns-in_err-number
 returns-in_err-number c =
-    let p = err_from_is_err_and c.from-residual.result c.from-residual.ensures.1 in
+    let p = err_from_is_err_and c.from_residual.result c.from_residual.ensures.1 in
     rw (p.1, p.2) (inr (broken (all_words (words c.args.text.now)) (vec_items c.loop-name.numbers) c.in-Some.name.now c.in_err-number.field-0.0 (words c.in-Some.after.now) (words c.loop-name.rest.now) c.loop-name.invariant c.in-Some.ensures.cuts c.in_err-number.ensures))
 
 pub loop-name-preserved : goal.loop-name-preserved

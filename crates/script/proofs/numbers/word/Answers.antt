@@ -8,7 +8,7 @@ returns-then-is_empty c = empty c.args.text.now c.if-is_empty.ensures
 
 pub returns-in_err-number : goal.returns-in_err-number
 returns-in_err-number c =
-    let p = err_from_is_err_and c.from-residual.result c.from-residual.ensures.1 in
+    let p = err_from_is_err_and c.from_residual.result c.from_residual.ensures.1 in
     rw (p.1, p.2) (sym (breaks c.loop-byte.number c.in_err-number.field-0.0 c.args.text.now c.loop-byte.byte-index c.loop-byte-test.true c.in_err-number.ensures) ∙ sym c.loop-byte.invariant ∙ full c.args.text.now c.if-is_empty.ensures)
 
 pub loop-byte-preserved : goal.loop-byte-preserved

@@ -42,7 +42,7 @@ arguments-expression-requires t c =
 
 pub arguments-returns-in_err-argument : goal.arguments-returns-in_err-argument
 arguments-returns-in_err-argument t c =
-    let q = err_from_is_err_and c.from-residual.result c.from-residual.ensures.1 in
+    let q = err_from_is_err_and c.from_residual.result c.from_residual.ensures.1 in
     rw (q.1, q.2) (record {
       answer = λ es l.
           let w = c.loop-at.invariant.onward es l in
@@ -91,7 +91,7 @@ arguments-returns t c =
 
 pub assignment-returns-in_err-k : goal.assignment-returns-in_err-k
 assignment-returns-in_err-k t c =
-    let q = err_from_is_err_and c.from-residual.result c.from-residual.ensures.1 in
+    let q = err_from_is_err_and c.from_residual.result c.from_residual.ensures.1 in
     rw (q.1, q.2) (record {
       answer = λ p x e l. same-assignment (seen c.args.nodes.now c.args.names.now c.args.level) c.args.set.now.set (live c.args.code.now) (ap (λ n. n.place) c.node_at-node.ensures ∙ l.4) (ap (λ n. n.value) c.node_at-node.ensures ∙ l.3) e ∙ breaks _ (found-seen c.args.nodes.now c.args.names.now c.args.level c.node_at-node.result.place c.node_at-node.result.value c.in_err-k.ensures.answer);
       room = tt;
@@ -99,7 +99,7 @@ assignment-returns-in_err-k t c =
 
 pub assignment-returns-in_err-variable : goal.assignment-returns-in_err-variable
 assignment-returns-in_err-variable t c =
-    let q = err_from_is_err_and c.from-residual-in_err-variable.result c.from-residual-in_err-variable.ensures.1 in
+    let q = err_from_is_err_and c.from_residual-in_err-variable.result c.from_residual-in_err-variable.ensures.1 in
     rw (q.1, q.2) (record {
       answer = λ p x e l. same-assignment (seen c.args.nodes.now c.args.names.now c.args.level) c.args.set.now.set (live c.args.code.now) (ap (λ n. n.place) c.node_at-node.ensures ∙ l.4) (ap (λ n. n.value) c.node_at-node.ensures ∙ l.3) e ∙ goes _ (found-seen c.args.nodes.now c.args.names.now c.args.level c.node_at-node.result.place c.node_at-node.result.value c.in_ok-k.ensures.answer) ∙ breaks _ (ap (as_variable c.node_at-node.result.place) (entry_seen c.args.nodes.now c.args.names.now c.args.level c.in_ok-k.k c.in_ok-k.ensures.within) ∙ sym (c.in_err-variable.ensures c.args.nodes.now));
       room = tt;
@@ -107,7 +107,7 @@ assignment-returns-in_err-variable t c =
 
 pub assignment-returns-in_err-value : goal.assignment-returns-in_err-value
 assignment-returns-in_err-value t c =
-    let q = err_from_is_err_and c.from-residual-in_err-value.result c.from-residual-in_err-value.ensures.1 in
+    let q = err_from_is_err_and c.from_residual-in_err-value.result c.from_residual-in_err-value.ensures.1 in
     rw (q.1, q.2) (record {
       answer = λ p x e l. same-assignment (seen c.args.nodes.now c.args.names.now c.args.level) c.args.set.now.set (live c.args.code.now) (ap (λ n. n.place) c.node_at-node.ensures ∙ l.4) (ap (λ n. n.value) c.node_at-node.ensures ∙ l.3) e ∙ goes _ (found-seen c.args.nodes.now c.args.names.now c.args.level c.node_at-node.result.place c.node_at-node.result.value c.in_ok-k.ensures.answer) ∙ goes _ (ap (as_variable c.node_at-node.result.place) (entry_seen c.args.nodes.now c.args.names.now c.args.level c.in_ok-k.k c.in_ok-k.ensures.within) ∙ sym (c.in_ok-variable.ensures c.args.nodes.now)) ∙ breaks _ (c.in_err-value.ensures.answer e l.5.0);
       room = tt;
@@ -135,8 +135,8 @@ assignment-returns t c =
       room = (omega (arith, c.emit.ensures.length), omega (arith, c.emit.ensures.length), omega arith, omega arith);
     }
 
-pub block-overflow-add-i : goal.block-overflow-add-i
-block-overflow-add-i t c =
+pub block-overflow_add-i : goal.block-overflow_add-i
+block-overflow_add-i t c =
     let h = lays-here (of_block c.requires.tree.0) c.args.nodes.now c.args.i c.requires.tree.1 in search rules
 
 pub block-statements-requires : goal.block-statements-requires
@@ -148,7 +148,7 @@ block-statements-requires t c =
 
 pub block-returns-in_err-after : goal.block-returns-in_err-after
 block-returns-in_err-after t c =
-    let q = err_from_is_err_and c.from-residual.result c.from-residual.ensures.1 in
+    let q = err_from_is_err_and c.from_residual.result c.from_residual.ensures.1 in
     rw (q.1, q.2) (record {
       answer = λ b l.
           let v = block_at c.args.nodes.now c.args.i b l in
@@ -177,7 +177,7 @@ call_statement-invoke-requires t c =
 
 pub call_statement-returns-in_err-result : goal.call_statement-returns-in_err-result
 call_statement-returns-in_err-result t c =
-    let q = err_from_is_err_and c.from-residual.result c.from-residual.ensures.1 in
+    let q = err_from_is_err_and c.from_residual.result c.from_residual.ensures.1 in
     rw (q.1, q.2) (record {
       answer = λ p x es l. breaks _ (c.in_err-result.ensures.answer kinds.CallStatement p x es l);
       room = tt;
@@ -192,8 +192,8 @@ call_statement-returns t c =
       room = (omega (arith, c.discard.ensures.length), omega (arith, c.discard.ensures.length), omega arith, omega arith);
     }
 
-pub conditional-overflow-add-i : goal.conditional-overflow-add-i
-conditional-overflow-add-i t c =
+pub conditional-overflow_add-i : goal.conditional-overflow_add-i
+conditional-overflow_add-i t c =
     let h = lays-here (of_statement c.requires.tree.0) c.args.nodes.now c.args.i c.requires.tree.1 in search rules
 
 pub conditional-if_else-requires : goal.conditional-if_else-requires
@@ -350,7 +350,7 @@ expression-returns-in-Call t c =
 
 pub invoke-returns-in_err-k : goal.invoke-returns-in_err-k
 invoke-returns-in_err-k t c =
-    let q = err_from_is_err_and c.from-residual.result c.from-residual.ensures.1 in
+    let q = err_from_is_err_and c.from_residual.result c.from_residual.ensures.1 in
     rw (q.1, q.2) (record {
       answer = λ k p x es l. same-calling (seen c.args.nodes.now c.args.names.now c.args.level) c.args.set.now.set (live c.args.code.now) (ap (λ n. n.place) c.node_at-node.ensures ∙ l.4) (ap (λ n. n.value) c.node_at-node.ensures ∙ l.3) (λ y d. walk_arguments (seen c.args.nodes.now c.args.names.now c.args.level) es y c.args.set.now.set d) ∙ breaks _ (found-seen c.args.nodes.now c.args.names.now c.args.level c.node_at-node.result.place c.node_at-node.result.value c.in_err-k.ensures.answer);
       room = tt;
@@ -358,7 +358,7 @@ invoke-returns-in_err-k t c =
 
 pub invoke-returns-in_err-callable : goal.invoke-returns-in_err-callable
 invoke-returns-in_err-callable t c =
-    let q = err_from_is_err_and c.from-residual-in_err-callable.result c.from-residual-in_err-callable.ensures.1 in
+    let q = err_from_is_err_and c.from_residual-in_err-callable.result c.from_residual-in_err-callable.ensures.1 in
     rw (q.1, q.2) (record {
       answer = λ k p x es l. same-calling (seen c.args.nodes.now c.args.names.now c.args.level) c.args.set.now.set (live c.args.code.now) (ap (λ n. n.place) c.node_at-node.ensures ∙ l.4) (ap (λ n. n.value) c.node_at-node.ensures ∙ l.3) (λ y d. walk_arguments (seen c.args.nodes.now c.args.names.now c.args.level) es y c.args.set.now.set d) ∙ goes _ (found-seen c.args.nodes.now c.args.names.now c.args.level c.node_at-node.result.place c.node_at-node.result.value c.in_ok-k.ensures.answer) ∙ breaks _ (ap (λ n. callable c.node_at-node.result.place n.thing) (entry_seen c.args.nodes.now c.args.names.now c.args.level c.in_ok-k.k c.in_ok-k.ensures.within) ∙ sym (c.in_err-callable.ensures c.args.nodes.now));
       room = tt;
@@ -376,7 +376,7 @@ invoke-arguments-requires t c =
 
 pub invoke-returns-in_err-tally : goal.invoke-returns-in_err-tally
 invoke-returns-in_err-tally t c =
-    let q = err_from_is_err_and c.from-residual-in_err-tally.result c.from-residual-in_err-tally.ensures.1 in
+    let q = err_from_is_err_and c.from_residual-in_err-tally.result c.from_residual-in_err-tally.ensures.1 in
     rw (q.1, q.2) (record {
       answer = λ k p x es l. same-calling (seen c.args.nodes.now c.args.names.now c.args.level) c.args.set.now.set (live c.args.code.now) (ap (λ n. n.place) c.node_at-node.ensures ∙ l.4) (ap (λ n. n.value) c.node_at-node.ensures ∙ l.3) (λ y d. walk_arguments (seen c.args.nodes.now c.args.names.now c.args.level) es y c.args.set.now.set d) ∙ goes _ (found-seen c.args.nodes.now c.args.names.now c.args.level c.node_at-node.result.place c.node_at-node.result.value c.in_ok-k.ensures.answer) ∙ goes _ (ap (λ n. callable c.node_at-node.result.place n.thing) (entry_seen c.args.nodes.now c.args.names.now c.args.level c.in_ok-k.k c.in_ok-k.ensures.within) ∙ sym (c.in_ok-callable.ensures c.args.nodes.now)) ∙ breaks _ (ap (λ n. walk_arguments (seen c.args.nodes.now c.args.names.now c.args.level) es (tallied (parameters_of n.thing) false true) c.args.set.now.set (opened c.args.level n.level n.thing (live c.args.code.now))) (entry_seen c.args.nodes.now c.args.names.now c.args.level c.in_ok-k.k c.in_ok-k.ensures.within) ∙
           ap (λ qs. walk_arguments (seen c.args.nodes.now c.args.names.now c.args.level) es (tallied qs false true) c.args.set.now.set (opened c.args.level (get_or c.args.names.now c.in_ok-k.k no_entry).level (thing_of c.args.nodes.now (get_or c.args.names.now c.in_ok-k.k no_entry).what) (live c.args.code.now))) (sym (c.parameters.ensures c.args.nodes.now)) ∙
@@ -482,7 +482,7 @@ statements-statement-requires t c =
 
 pub statements-returns-in_err-flags : goal.statements-returns-in_err-flags
 statements-returns-in_err-flags t c =
-    let q = err_from_is_err_and c.from-residual.result c.from-residual.ensures.1 in
+    let q = err_from_is_err_and c.from_residual.result c.from_residual.ensures.1 in
     rw (q.1, q.2) (record {
       answer = λ ss f l. let w = c.loop-at.invariant.onward ss f l in
           let a = row-goes-on c.args.nodes.now c.loop-at.at c.args.stop w.0 (of_final f) (final-lacks f) w.1 c.loop-at-test.true (is-statement (class_at c.args.nodes.now c.loop-at.at) (ap (λ n. is_statement (class_or (kind_at n.kind))) (sym c.node_at-node.ensures) ∙ sym c.is_statement.ensures ∙ c.if-not-is_statement.false)) in
@@ -527,8 +527,8 @@ statements-returns t c =
       room = (inv.grows, inv.room, inv.behind, inv.short);
     }
 
-pub value_block-overflow-add-i : goal.value_block-overflow-add-i
-value_block-overflow-add-i t c =
+pub value_block-overflow_add-i : goal.value_block-overflow_add-i
+value_block-overflow_add-i t c =
     let h = lays-here (of_value_block c.requires.tree.0) c.args.nodes.now c.args.i c.requires.tree.1 in search rules
 
 pub value_block-statements-requires : goal.value_block-statements-requires
@@ -540,7 +540,7 @@ value_block-statements-requires t c =
 
 pub value_block-returns-in_err-inner : goal.value_block-returns-in_err-inner
 value_block-returns-in_err-inner t c =
-    let q = err_from_is_err_and c.from-residual.result c.from-residual.ensures.1 in
+    let q = err_from_is_err_and c.from_residual.result c.from_residual.ensures.1 in
     rw (q.1, q.2) (record {
       answer = λ b l.
           let v = value-block-at c.args.nodes.now c.args.i b l in

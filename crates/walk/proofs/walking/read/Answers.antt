@@ -8,7 +8,7 @@ use Rattle.walk.proofs.walking.read.Goals as goal
 
 pub returns-in_err-k : goal.returns-in_err-k
 returns-in_err-k c =
-    let q = err_from_is_err_and c.from-residual.result c.from-residual.ensures.1 in
+    let q = err_from_is_err_and c.from_residual.result c.from_residual.ensures.1 in
     rw (q.1, q.2) (record {
       answer = λ table. breaks _ (found-seen table c.args.names.now c.args.level _ _ c.in_err-k.ensures.answer);
       room = tt;
@@ -16,7 +16,7 @@ returns-in_err-k c =
 
 pub returns-in_err-variable : goal.returns-in_err-variable
 returns-in_err-variable c =
-    let q = err_from_is_err_and c.from-residual-in_err-variable.result c.from-residual-in_err-variable.ensures.1 in
+    let q = err_from_is_err_and c.from_residual-in_err-variable.result c.from_residual-in_err-variable.ensures.1 in
     rw (q.1, q.2) (record {
       answer = λ table.
           goes _ (found-seen table c.args.names.now c.args.level _ _ c.in_ok-k.ensures.answer) ∙
@@ -26,7 +26,7 @@ returns-in_err-variable c =
 
 pub returns-in_err-must_be_set : goal.returns-in_err-must_be_set
 returns-in_err-must_be_set c =
-    let q = err_from_is_err_and c.from-residual-in_err-must_be_set.result c.from-residual-in_err-must_be_set.ensures.1 in
+    let q = err_from_is_err_and c.from_residual-in_err-must_be_set.result c.from_residual-in_err-must_be_set.ensures.1 in
     rw (q.1, q.2) (record {
       answer = λ table.
           goes _ (found-seen table c.args.names.now c.args.level _ _ c.in_ok-k.ensures.answer) ∙

@@ -9,7 +9,7 @@ use Rattle.engine.proofs.record.Record.admit.Goals as goal
 
 pub returns-in_err-result : goal.returns-in_err-result
 returns-in_err-result c =
-    let q = err_from_is_err_and c.from-residual.result c.from-residual.ensures.1 in
+    let q = err_from_is_err_and c.from_residual.result c.from_residual.ensures.1 in
     let j = c.in_err-result.ensures.verdict in
     rw (q.1, q.2) (record {
       gave = admit-refused c.args.nodes.now (area c.args.buffer.now c.args.cells.now c.args.self.now.stage) c.in_err-result.field-0.0 j;

@@ -14,14 +14,9 @@ bounded sums i b d z inside before wider here a =
     ]
 
 pub invariant_of-totals : goal.invariant_of-totals
-invariant_of-totals c = (
-  simp length-set (search rules),
-  (
-    search rules,
-    (
-      bounded c.args.self.sums c.args.account (2147483648 * (c.args.self.most - c.args.self.left)) _ _
-          (omega arith) c.args.self.bound (omega arith) (omega (arith, ints, c.args.self.bound c.args.account)),
-      tt,
-    ),
-  ),
-)
+invariant_of-totals c = record {
+  whole = simp length-set (search rules);
+  lines = search rules;
+  bound = bounded c.args.self.sums c.args.account (2147483648 * (c.args.self.most - c.args.self.left)) _ _
+      (omega arith) c.args.self.bound (omega arith) (omega (arith, ints, c.args.self.bound c.args.account));
+}

@@ -11,4 +11,8 @@ pub returns : goal.returns
 returns c = record { sums = zeros 256; left = refl }
 
 pub invariant_of-result : goal.invariant_of-result
-invariant_of-result c = (refl, (search rules, (λ a. omega (arith, ap nat_abs (zeros 256 a)), tt)))
+invariant_of-result c = record {
+  whole = refl;
+  lines = search rules;
+  bound = λ a. omega (arith, ap nat_abs (zeros 256 a));
+}
