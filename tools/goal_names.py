@@ -34,7 +34,7 @@ def identifiers(crate):
     out = set()
     for path in glob.glob(f'{crate}/src/**/*.rt', recursive=True):
         text = re.sub(r'//.*', '', open(path).read())
-        out |= {w for w in re.findall(r'\b[a-z][a-z0-9]*(?:_[a-z0-9]+)+\b', text)}
+        out |= {w for w in re.findall(r'\b[A-Za-z][A-Za-z0-9]*(?:_[A-Za-z0-9]+)+\b', text)}
     return sorted(out, key=len, reverse=True)
 
 

@@ -41,7 +41,7 @@ body-inside-requires t c =
     let v = body_at c.args.nodes.now c.args.i c.requires.tree.0 c.requires.tree.1 in
     let h = lays-here (of_body c.requires.tree.0) c.args.nodes.now c.args.i c.requires.tree.1 in
     let k = lays-inside (of_body c.requires.tree.0) c.args.nodes.now c.args.i c.requires.tree.1 in
-    (search rules, (c.requires.short, (c.requires.ready, (omega (arith, c.requires.room), (omega (arith, c.end_of-stop.ensures), (omega arith, (v.0, v.1, v.2, subst (λ k. LaysAll (of_declarations v.0 (of_statements v.1 (of_final v.2))) c.args.nodes.now (c.args.i + 1) k) (sym c.end_of-stop.ensures) v.4)))))))
+    (search rules, (c.requires.short, (c.requires.ready, (omega (arith, c.requires.room), ((omega (arith, c.end_of-stop.ensures), omega arith), (v.0, v.1, v.2, subst (λ k. LaysAll (of_declarations v.0 (of_statements v.1 (of_final v.2))) c.args.nodes.now (c.args.i + 1) k) (sym c.end_of-stop.ensures) v.4))))))
 
 pub body-returns-in_err-found : goal.body-returns-in_err-found
 body-returns-in_err-found t c =
