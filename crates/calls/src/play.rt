@@ -17,7 +17,7 @@ fn one<H: Host>(
     host: &mut H,
     call: Call,
 ) -> Answer
-    ensures { Called call.entry (world_of buffer.old cells.old work.old.stage (means host.old)) result (world_of buffer.new cells.new work.new.stage (means host.new)) }
+    ensures { Called call.entry (world_of buffer.old cells.old work.old.stage (H.means host.old)) result (world_of buffer.new cells.new work.new.stage (H.means host.new)) }
 {
     match call {
         Call::Admit(table) => match work.admit(buffer, cells, table) {
@@ -53,7 +53,7 @@ pub fn play<H: Host>(
     answers: &mut [Answer],
 ) -> usize
     ensures count { result ≡ min (length calls.now) (length answers.old) }
-    ensures wrote { Wrote calls.now result (world_of buffer.old cells.old work.old.stage (means host.old)) (world_of buffer.new cells.new work.new.stage (means host.new)) answers.old answers.new }
+    ensures wrote { Wrote calls.now result (world_of buffer.old cells.old work.old.stage (H.means host.old)) (world_of buffer.new cells.new work.new.stage (H.means host.new)) answers.old answers.new }
     ensures onward { CarriesOn }
     ensures rules { AdmittedHasRules }
     ensures image { RunsItsImage }

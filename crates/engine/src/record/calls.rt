@@ -98,7 +98,7 @@ impl Record {
         host: &mut H,
         allowance: u32,
     ) -> Result<Ran, Fault>
-        ensures { LeftResumed (resuming allowance (means host.old) (area buffer.now cells.old self.old.stage)) result (area buffer.now cells.old self.old.stage) (means host.old) buffer.now cells.new self.new.stage (means host.new) }
+        ensures { LeftResumed (resuming allowance (H.means host.old) (area buffer.now cells.old self.old.stage)) result (area buffer.now cells.old self.old.stage) (H.means host.old) buffer.now cells.new self.new.stage (H.means host.new) }
     {
         match self.stage {
             Stage::Blank => Err(refusal(Cause::Continue(ContinueRefusal::NotBegun))),

@@ -16,8 +16,8 @@ impl Record {
         host: &mut H,
         call: Call,
     ) -> Answer
-        ensures answer { result ≡ (called call.entry (world buffer.old cells.old self.old.stage (means host.old))).answer }
-        ensures after { Stands (called call.entry (world buffer.old cells.old self.old.stage (means host.old))).after buffer.new cells.new self.new.stage (means host.new) }
+        ensures answer { result ≡ (called call.entry (world buffer.old cells.old self.old.stage (H.means host.old))).answer }
+        ensures after { Stands (called call.entry (world buffer.old cells.old self.old.stage (H.means host.old))).after buffer.new cells.new self.new.stage (H.means host.new) }
     {
         match call {
             Call::Bring(words) => match self.bring(buffer, cells, words) {
@@ -49,8 +49,8 @@ impl Record {
         answers: &mut [Answer],
     ) -> usize
         ensures count { result ≡ min (length calls.now) (length answers.old) }
-        ensures answers { answers.new ≡ (played (take result calls.now) (world buffer.old cells.old self.old.stage (means host.old))).answers ++ drop result answers.old }
-        ensures after { Stands (played (take result calls.now) (world buffer.old cells.old self.old.stage (means host.old))).after buffer.new cells.new self.new.stage (means host.new) }
+        ensures answers { answers.new ≡ (played (take result calls.now) (world buffer.old cells.old self.old.stage (H.means host.old))).answers ++ drop result answers.old }
+        ensures after { Stands (played (take result calls.now) (world buffer.old cells.old self.old.stage (H.means host.old))).after buffer.new cells.new self.new.stage (H.means host.new) }
     {
         let count = calls.len().min(answers.len());
         for k in 0..count {
