@@ -3,4 +3,4 @@ use Rattle.hosts_tests.proofs.records.longest.Given as goal
 
 -- the array keeps its length
 abbrev pub invariant-loop-i : goal.invariant-loop-i
-invariant-loop-i l = length l.words ≡ 1026
+invariant-loop-i g l = length l.words ≡ 1026
