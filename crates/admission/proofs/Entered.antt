@@ -1,14 +1,13 @@
 -- Names that enter the innermost scope. Assumes nothing.
-use Rattle.std.proofs.Common.{◌≡◌, ℕ, zero, suc, ◌+◌, ◌<◌, ◌≤◌, Bool, true, false, cond, leb, List, [], ◌∷◌, ◌++◌, map, length, take, set, Some, None, Ok, Err, Result, sym, refl, ap, ◌∙◌, arith, length-set}
+use Rattle.std.proofs.Common.{◌≡◌, ℕ, zero, suc, ◌+◌, ◌<◌, ◌≤◌, Bool, cond, leb, List, [], ◌∷◌, ◌++◌, map, length, take, set, Some, None, Ok, Err, sym, refl, ap, ◌∙◌, arith, length-set}
 use Rattle.std.proofs.lemmas.List.{length-map, length-take-le, take_more_set, map-append}
 use Rattle.std.proofs.lemmas.Bool.{le-leb, lt-leb}
-use Rattle.language.specs.declared.faults.Fault.{Fault}
 use Rattle.language.specs.declared.faults.WalkRefusal.TheVariants.{DeclaredTwice, TooManyNames}
 use Rattle.table.specs.declared.nodes.Node.{Node}
 use Rattle.walk.specs.declared.names.Entry.{Entry}
 use Rattle.walk.specs.Bind.{refusal}
-use Rattle.walk.specs.Scopes.{Named, newest, Env}
-use Rattle.walk.specs.Known.{known, name_at, seen}
+use Rattle.walk.specs.Scopes.{Named, newest}
+use Rattle.walk.specs.Known.{known, name_at}
 use Rattle.walk.specs.Sets.{marked}
 use Rattle.walk.specs.Programs.{Scope as Walked, at_or_above, new, room_for}
 use Rattle.walk.proofs.Seen.{lookup-seen}

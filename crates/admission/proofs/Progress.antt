@@ -1,5 +1,5 @@
 -- How far the walk over a row of parameters or declarations has come. Assumes nothing.
-use Rattle.std.proofs.Common.{◌≡◌, ℕ, ◌+◌, ◌*◌, ◌<◌, ◌≤◌, true, false, List, [], ◌∷◌, length, take, Ok, Err, sym, refl, ap, ◌∙◌, subst, arith}
+use Rattle.std.proofs.Common.{◌≡◌, ℕ, ◌+◌, ◌*◌, ◌<◌, ◌≤◌, true, false, List, [], ◌∷◌, take, Ok, Err, sym, refl, ap, ◌∙◌, subst, arith}
 use Rattle.language.specs.declared.faults.Fault.{Fault}
 use Rattle.std.proofs.lemmas.List.{take-take}
 use Rattle.std.proofs.lemmas.Bool.{false≢true}
@@ -30,8 +30,8 @@ use Rattle.walk.specs.Programs.{declaring, walk_parameters, walk_declaration, wa
 use Rattle.walk.proofs.Exits.{goes, breaks}
 use Rattle.admission.specs.declared.scopes.Scope.{Scope}
 use Rattle.admission.specs.declared.scopes.Frame.{Frame}
-use Rattle.admission.specs.Standing.{scope_of, Ready, Widened}
-use Rattle.admission.specs.Walks.{is_declaration, GaveScoped}
+use Rattle.admission.specs.Standing.{scope_of, Widened}
+use Rattle.admission.specs.Walks.{is_declaration}
 
 -- what stays below a height stays below a lower one
 pub stays-lower : {X : Type 0} (m n : ℕ) (xs ys : List X) → m ≤ n → take n ys ≡ take n xs → take m ys ≡ take m xs

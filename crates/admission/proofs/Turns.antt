@@ -1,10 +1,8 @@
 -- Functions, bodies and their insides, in their parts. Assumes nothing.
-use Rattle.std.proofs.Common.{◌≡◌, ℕ, ◌+◌, ◌-◌, ◌*◌, ◌<◌, ◌≤◌, Bool, true, false, cond, List, [], ◌∷◌, ◌++◌, map, length, take, drop, set, Ok, Err, Result, sym, refl, ap, ◌∙◌, subst, arith}
+use Rattle.std.proofs.Common.{◌≡◌, ℕ, ◌+◌, ◌<◌, ◌≤◌, Bool, false, List, [], ◌∷◌, ◌++◌, map, length, take, drop, set, Ok, Err, Result, sym, refl, ap, ◌∙◌, subst, arith}
 use Rattle.language.specs.declared.faults.Fault.{Fault}
 use Rattle.language.specs.declared.values.ValueType.{ValueType}
-use Rattle.language.specs.Numbers.{type_number}
 use Rattle.rules.specs.Translate.{gives}
-use Rattle.table.specs.declared.kinds.Class.TheVariants as classes
 use Rattle.table.specs.declared.nodes.Node.{Node}
 use Rattle.table.specs.Listed.{node_at, end_at}
 use Rattle.table.specs.Tree.{Statements, Final, Parameter, Declaration, Declarations, Body}
@@ -14,11 +12,10 @@ use Rattle.table.specs.Tree.Body.{body}
 use Rattle.table.specs.Layout.{of_parameter, of_parameters, of_declaration, of_declarations, of_statements, of_final, of_body}
 use Rattle.table.specs.Layout.Branches.{nil, cons}
 use Rattle.table.specs.Lays.{Lays, LaysAll}
-use Rattle.table.proofs.Chains.{class_at}
 use Rattle.table.proofs.Formed.{class-of-lays}
-use Rattle.table.proofs.Kept.{parameter-class, body-class}
+use Rattle.table.proofs.Kept.{body-class}
 use Rattle.table.proofs.Placed.{lays-here}
-use Rattle.table.proofs.Views.{as-body, as-parameter}
+use Rattle.table.proofs.Views.{as-body}
 use Rattle.walk.specs.declared.codes.Instr.{Instr}
 use Rattle.walk.specs.declared.names.Entry.{Entry}
 use Rattle.walk.specs.declared.names.What.TheVariants.{Function}

@@ -1,5 +1,5 @@
 -- A whole program, and the verdict on its table. Assumes nothing.
-use Rattle.std.proofs.Common.{◌≡◌, ℕ, List, [], map, length, take, Ok, Err, Result, sym, refl, ap, ◌∙◌, subst}
+use Rattle.std.proofs.Common.{◌≡◌, ℕ, List, [], length, take, Ok, Err, Result, sym, refl, ap, ◌∙◌, subst}
 use Rattle.language.specs.declared.faults.Fault.{Fault}
 use Rattle.language.specs.declared.values.ValueType.{ValueType}
 use Rattle.table.specs.declared.nodes.Node.{Node}
@@ -9,7 +9,7 @@ use Rattle.table.specs.Tree.Statements.{no_statements}
 use Rattle.table.specs.Tree.Final.{final}
 use Rattle.table.specs.Tree.Declarations.{no_declarations, declaration}
 use Rattle.table.specs.Tree.Program.{single, whole}
-use Rattle.table.specs.Layout.{WithinLimits, layout, LaidOut, of_declarations, of_statements, of_final, of_program}
+use Rattle.table.specs.Layout.{LaidOut, of_declarations, of_statements, of_final, of_program}
 use Rattle.table.specs.Lays.{Lays, LaysAll}
 use Rattle.table.specs.Answers.{Sized}
 use Rattle.table.proofs.Proved.{layout-lays, layout-end}
@@ -21,14 +21,13 @@ use Rattle.rules.specs.Translate.{gives}
 use Rattle.walk.specs.Lay.{live, laid}
 use Rattle.walk.specs.Known.{seen}
 use Rattle.walk.specs.Sets.{none_set}
-use Rattle.walk.specs.Walked.{Gave}
 use Rattle.walk.specs.Programs.{outermost, inside, ending, walk_declarations, walk_program}
 use Rattle.walk.proofs.Exits.{goes, breaks}
 use Rattle.admission.specs.declared.scopes.Scope.{Scope}
 use Rattle.admission.specs.declared.scopes.Frame.{Frame}
 use Rattle.admission.specs.Standing.{scope_of}
-use Rattle.admission.specs.Judged.{Judged, refused_table, walked, verdict_of}
-use Rattle.admission.specs.Walks.{host_entries, HasProgram, GaveProgram}
+use Rattle.admission.specs.Judged.{Judged, walked, verdict_of}
+use Rattle.admission.specs.Walks.{host_entries, GaveProgram}
 
 -- a program by its members
 pub members : (table : List Node) (n : ℕ) (p : Program) → Lays (of_program p) table 0 → end_at table 0 ≡ n → (ds : Declarations) × (ss : Statements) × (z : Final) × LaysAll (of_declarations ds (of_statements ss (of_final z))) table 1 n × (walk_program p ≡ bind (inside outermost ss z [] (λ q c. walk_declarations ds q c)) ending)

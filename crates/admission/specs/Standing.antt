@@ -1,5 +1,5 @@
 -- What the code's name list, scope and frame stand for. Assumes nothing.
-use Rattle.std.specs.Prelude.{◌≡◌, ℕ, ◌≤◌, List, length, take, Ok, Err, Result}
+use Rattle.std.specs.Prelude.{◌≡◌, ◌≤◌, List, length, take, Ok, Err, Result}
 use Rattle.language.specs.declared.faults.Fault.{Fault}
 use Rattle.table.specs.declared.nodes.Node.{Node}
 use Rattle.walk.specs.declared.names.Entry.{Entry}

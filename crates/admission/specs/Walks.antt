@@ -1,5 +1,5 @@
 -- What the functions of the walk over declarations ask of the table, the names and the code, and what they answer. Assumes nothing.
-use Rattle.std.specs.Prelude.{◌≡◌, ℕ, ◌+◌, ◌*◌, ◌<◌, ◌≤◌, Bool, true, false, List, [], ◌∷◌, length, take, Ok, Err, Result}
+use Rattle.std.specs.Prelude.{◌≡◌, ℕ, ◌+◌, ◌*◌, ◌≤◌, Bool, true, false, List, [], ◌∷◌, length, take, Ok, Err, Result}
 use Rattle.language.specs.declared.faults.Fault.{Fault}
 use Rattle.language.specs.declared.values.ValueType.{ValueType}
 use Rattle.table.specs.declared.kinds.Class.{Class}
@@ -19,11 +19,11 @@ use Rattle.walk.specs.declared.names.What.TheVariants as whats
 use Rattle.walk.specs.Bind.{bind}
 use Rattle.walk.specs.Lay.{live}
 use Rattle.walk.specs.Known.{seen}
-use Rattle.walk.specs.Walked.{Gave, Grew}
+use Rattle.walk.specs.Walked.{Gave}
 use Rattle.walk.specs.Programs.{Scope as Walked, inner, inside, walk_final, walk_parameters, walk_declaration, walk_declarations, walk_body, walk_program}
 use Rattle.admission.specs.declared.scopes.Scope.{Scope}
 use Rattle.admission.specs.declared.scopes.Frame.{Frame}
-use Rattle.admission.specs.Standing.{scope_of, Ready, Widened}
+use Rattle.admission.specs.Standing.{scope_of, Widened}
 
 abbrev pub is_declaration : Class → Bool
 is_declaration classes.Declaration = true

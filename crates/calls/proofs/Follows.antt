@@ -1,5 +1,5 @@
 -- A run and the calls since its begin: what they tell is what the machine does in pieces. Assumes nothing.
-use Rattle.std.proofs.Common.{◌≡◌, ℕ, ◌+◌, Bool, true, false, cond, List, [], ◌∷◌, ◌++◌, length, Ok, Err, Result, sym, refl, ap, ◌∙◌, subst, zero-add, arith}
+use Rattle.std.proofs.Common.{◌≡◌, ℕ, ◌+◌, Bool, true, false, List, [], ◌∷◌, length, Ok, Result, sym, refl, ap, ◌∙◌, subst, zero-add, arith}
 use Rattle.language.specs.declared.faults.Fault.{Fault}
 use Rattle.host.specs.Meaning.{Meaning}
 use Rattle.host.specs.Serves.{by_meaning}
@@ -8,7 +8,6 @@ use Rattle.image.specs.Fetch.{fetched}
 use Rattle.machine.specs.declared.cells.Cell.{Cell}
 use Rattle.machine.specs.declared.registers.Outcome.{Outcome}
 use Rattle.machine.specs.declared.registers.Outcome.TheVariants.{Paused, Finished, Halted}
-use Rattle.machine.specs.State.{state}
 use Rattle.machine.specs.Run.{ran}
 use Rattle.stack.specs.Stack.{Stack, Run, run}
 use Rattle.stack.specs.Law.{Told, Shows, over, whole, whole_run}
@@ -18,11 +17,11 @@ use Rattle.replay.specs.Script as replay
 use Rattle.promises.specs.Promises.{last_host, onward_host}
 use Rattle.engine.specs.declared.record.Loaded.{Loaded}
 use Rattle.engine.specs.declared.record.Stage.TheVariants.{Running, Ended}
-use Rattle.engine.specs.Calls.{Area, Resumed, area, and_then, allowed, standing, machine_of, went_on, resuming}
+use Rattle.engine.specs.Calls.{Area, Resumed, area, and_then, allowed, standing, machine_of, went_on}
 use Rattle.calls.specs.declared.call.Call.{Call}
 use Rattle.calls.specs.declared.call.Call.TheVariants.{Continue}
 use Rattle.calls.specs.declared.call.Answer.{Answer}
-use Rattle.calls.specs.declared.call.Answer.TheVariants.{Continued, Refused}
+use Rattle.calls.specs.declared.call.Answer.TheVariants.{Continued}
 use Rattle.calls.specs.History.{Entry, History, None-of, OneHost, finds, taken, ends_run, steps_of, steps, outcome_of, outcome_from, allowances, pieces, onward, host_where}
 use Rattle.calls.specs.Law.{told_since}
 use Rattle.calls.proofs.Replies.{Lasting, turned, went, lasting, came-of}

@@ -1,8 +1,7 @@
 -- A run in a list of calls, found by cutting the list: the image of its table's rule set is in the buffer, and the calls since its begin follow the machine. Assumes nothing.
-use Rattle.std.proofs.Common.{◌≡◌, ℕ, ◌+◌, ◌≤◌, Bool, true, false, cond, ◌⊎◌, List, [], ◌∷◌, ◌++◌, map, length, get_or, drop, Ok, Err, Result, sym, refl, ap, ◌∙◌, subst, subst₂, inl, inr, append_assoc, append-nil, arith}
+use Rattle.std.proofs.Common.{◌≡◌, ℕ, ◌+◌, ◌≤◌, true, false, List, [], ◌∷◌, ◌++◌, map, length, get_or, drop, Ok, Result, sym, refl, ap, ◌∙◌, subst, subst₂, append_assoc, append-nil}
 use mathlib.Core.List.{map-map}
 use lib.ListN.{length-map}
-use Rattle.language.specs.declared.faults.Fault.{Fault}
 use Rattle.language.specs.declared.values.ValueType.{ValueType}
 use Rattle.language.specs.Numbers.{type_number}
 use Rattle.image.specs.declared.instruction.Accepted.{Accepted}

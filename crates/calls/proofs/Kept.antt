@@ -1,5 +1,5 @@
 -- What every call keeps: the number of cells, and that a run's top lies within them; and what each keeps but an accepted admit or bring: the words, and the record's knowledge of them. Assumes nothing.
-use Rattle.std.proofs.Common.{◌≡◌, ℕ, ◌+◌, ◌≤◌, Bool, true, false, cond, ltb, leb, ◌⊎◌, List, [], ◌∷◌, ◌++◌, length, drop, replicate, Ok, Err, Result, sym, refl, ap, ◌∙◌, subst, inl, inr, arith, length-append, length-drop}
+use Rattle.std.proofs.Common.{◌≡◌, ℕ, ◌+◌, ◌≤◌, Bool, true, false, cond, ltb, leb, List, [], ◌∷◌, length, drop, replicate, Ok, Err, Result, sym, refl, ap, ◌∙◌, subst, arith, length-append, length-drop}
 use lib.ListN.{length-replicate}
 use Rattle.std.proofs.lemmas.Bool.{ltb-false, le-leb}
 use Rattle.language.specs.declared.faults.Fault.{Fault}
@@ -24,13 +24,13 @@ use Rattle.stack.proofs.Runs.{run-of-any-state, beginning-is-the-stacks}
 use Rattle.engine.specs.declared.record.Loaded.{Loaded}
 use Rattle.engine.specs.declared.record.Stage.{Stage}
 use Rattle.engine.specs.declared.record.Stage.TheVariants.{Blank, Ready, Running, Ended}
-use Rattle.engine.specs.Calls.{Area, Resumed, area, and_then, written, holding, bringing, loaded, started, beginning as beginning_area, standing, machine_of, went_on, allowed, same_lengths, resumed_from, resuming, clearing}
+use Rattle.engine.specs.Calls.{Area, Resumed, area, and_then, written, holding, bringing, loaded, started, beginning as beginning_area, standing, machine_of, went_on, allowed, same_lengths, resumed_from, resuming}
 use Rattle.engine.specs.Admit.{admitting, words_of, image_of, known_of}
 use Rattle.calls.specs.declared.call.Call.{Call}
 use Rattle.calls.specs.declared.call.Call.TheVariants.{Admit, Bring, Begin, Continue, Clear}
 use Rattle.calls.specs.declared.call.Answer.{Answer}
-use Rattle.calls.specs.declared.call.Answer.TheVariants.{Admitted, Brought, Begun, Continued, Cleared, Refused}
-use Rattle.calls.specs.Called.{World, Reply, world, Gives, Called, replied, resumed}
+use Rattle.calls.specs.declared.call.Answer.TheVariants.{Admitted, Brought, Begun}
+use Rattle.calls.specs.Called.{World, world, Gives, Called, replied, resumed}
 use Rattle.calls.specs.History.{Entry, History, taken, puts_image, ends_run, None-of}
 use Rattle.calls.proofs.Replies.{refused-changes-nothing, not_taken}
 

@@ -1,30 +1,27 @@
 -- The law of every list of calls. Assumes nothing.
-use Rattle.std.proofs.Common.{◌≡◌, ℕ, ◌+◌, ◌-◌, ◌*◌, ◌≤◌, Bool, true, false, cond, ◌⊎◌, List, [], ◌∷◌, length, drop, Ok, Option, sym, refl, ap, ◌∙◌, subst, subst₂, inl, inr, zero-add, arith}
+use Rattle.std.proofs.Common.{◌≡◌, ℕ, ◌+◌, ◌-◌, Bool, true, false, cond, ◌⊎◌, List, [], ◌∷◌, length, drop, Ok, Option, sym, refl, ap, ◌∙◌, subst, subst₂, inl, inr, zero-add, arith}
 use Rattle.language.specs.declared.faults.Stop.{Stop}
 use Rattle.language.specs.declared.values.Value.{Value}
 use Rattle.language.specs.declared.values.ValueType.{ValueType}
 use Rattle.host.specs.Meaning.{Meaning}
 use Rattle.host.specs.Serves.{by_meaning}
-use Rattle.machine.specs.declared.cells.Cell.{Cell}
 use Rattle.machine.specs.declared.registers.Outcome.{Outcome}
-use Rattle.machine.specs.Run.{ran}
-use Rattle.machine.specs.Begin as begins
-use Rattle.stack.specs.Stack.{Run, run, beginning}
-use Rattle.stack.specs.Law.{Told, Shows, told, from_begin, over, whole}
+use Rattle.stack.specs.Stack.{run, beginning}
+use Rattle.stack.specs.Law.{Told, told, from_begin, over}
 use Rattle.stack.proofs.Runs.{run-is-the-stacks, leftovers-do-not-matter}
 use Rattle.replay.specs.Script as replay
 use Rattle.table.specs.declared.nodes.Node.{Node}
 use Rattle.rules.specs.Resolved.{Rules}
 use Rattle.rules.specs.Translate.{image, translated}
-use Rattle.rules.specs.Evaluate.{Env, Eval, done, stopped, evaluated}
+use Rattle.rules.specs.Evaluate.{Env, done, stopped, evaluated}
 use Rattle.theory.specs.Runs.{header_for, run_of, Ended, OutOfRoom, EndsAs}
 use Rattle.theory.proofs.Runs.{ended-run-stays}
-use Rattle.promises.specs.Promises.{Admitted, Stands, piecewise, last_host}
+use Rattle.promises.specs.Promises.{Stands, piecewise, last_host}
 use Rattle.promises.proofs.Kept as promises
 use Rattle.admission.proofs.Verdicts.{accepted-walk}
-use Rattle.calls.specs.History.{Entry, RunOf, OneHost, taken, allowance_of, allowances, steps, outcome, piece, pieces, host_where}
+use Rattle.calls.specs.History.{Entry, RunOf, OneHost, taken, allowance_of, allowances, outcome, piece, pieces, host_where}
 use Rattle.verdict.proofs.Typed.{typed-accepted}
-use Rattle.calls.specs.Law.{RuleSet, AdmittedHasRules, TakesSteps, RunsItsImage, NeverInTrouble, stands_since, NamedEndings, told_since, RunsAsOne, SameMeaning, SameRuns, ComesTo, AsEvaluated, ReachesEvaluation, EndsAsEvaluated, SomeAllowanceEndsIt}
+use Rattle.calls.specs.Law.{RuleSet, AdmittedHasRules, RunsItsImage, NeverInTrouble, stands_since, NamedEndings, told_since, RunsAsOne, SameMeaning, SameRuns, ComesTo, ReachesEvaluation, EndsAsEvaluated, SomeAllowanceEndsIt}
 use Rattle.calls.proofs.Kept.{framed}
 use Rattle.calls.proofs.Follows.{tells}
 use Rattle.calls.proofs.Alike.{run-alike}

@@ -1,7 +1,6 @@
 -- With one host a run can be carried on to any sum of allowances. Assumes nothing.
-use Rattle.std.proofs.Common.{◌≡◌, ℕ, zero, suc, ◌+◌, ◌≤◌, Bool, true, false, cond, List, [], ◌∷◌, ◌++◌, sym, refl, ap, ◌∙◌, subst, append_assoc, append-nil, arith, lit≤}
+use Rattle.std.proofs.Common.{◌≡◌, ℕ, zero, suc, ◌+◌, ◌≤◌, Bool, true, false, cond, List, [], ◌∷◌, ◌++◌, sym, refl, ◌∙◌, subst, append_assoc, append-nil, arith, lit≤}
 use Rattle.host.specs.Meaning.{Meaning}
-use Rattle.table.specs.declared.nodes.Node.{Node}
 use Rattle.calls.specs.declared.call.Call.TheVariants.{Continue}
 use Rattle.calls.specs.History.{Entry, RunOf, OneHost, finds, taken, allowance_of, allowances}
 use Rattle.calls.specs.Law.{CanGoFar}

@@ -1,13 +1,12 @@
 -- One more call of a list, and lists one after another. Assumes nothing.
-use Rattle.std.proofs.Common.{◌≡◌, ℕ, ◌+◌, ◌<◌, ◌≤◌, List, [], ◌∷◌, ◌++◌, map, length, get_or, take, drop, set, sym, refl, ap, ◌∙◌, subst, arith, length-take-le}
+use Rattle.std.proofs.Common.{◌≡◌, ℕ, ◌+◌, ◌<◌, List, [], ◌∷◌, ◌++◌, map, length, get_or, take, drop, set, sym, refl, ap, ◌∙◌, subst, arith, length-take-le}
 use lib.ListN.{length-map}
 use Rattle.std.proofs.lemmas.List.{take_more, drop_more}
 use Rattle.host.specs.Meaning.{Meaning}
-use Rattle.engine.specs.Calls.{Area}
 use Rattle.calls.specs.declared.call.Call.{Call}
 use Rattle.calls.specs.declared.call.Answer.{Answer}
-use Rattle.calls.specs.Called.{World, world, Called}
-use Rattle.calls.specs.History.{Entry, History}
+use Rattle.calls.specs.Called.{World, Called}
+use Rattle.calls.specs.History.{Entry}
 use Rattle.calls.specs.Played.{Served, Played, CarriesOn, Wrote}
 use Rattle.calls.proofs.Starts.{join}
 

@@ -1,14 +1,14 @@
 -- What is known of a call from its answer. Assumes nothing.
-use Rattle.std.proofs.Common.{◌≡◌, ℕ, Bool, true, false, cond, ◌⊎◌, List, length, Ok, Err, Result, sym, refl, ap, ◌∙◌, subst, inl, inr, arith}
+use Rattle.std.proofs.Common.{◌≡◌, ℕ, Bool, true, false, cond, ◌⊎◌, length, Ok, Err, Result, sym, refl, ap, ◌∙◌, subst, inl, inr, arith}
 use Rattle.language.specs.declared.faults.Fault.{Fault}
 use Rattle.host.specs.Meaning.{Meaning}
-use Rattle.engine.specs.Calls.{Area, Resumed, and_then, bringing, beginning, resuming, clearing}
+use Rattle.engine.specs.Calls.{Area, Resumed, and_then, bringing, beginning, resuming}
 use Rattle.engine.specs.Admit.{admitting, words_of}
 use Rattle.calls.specs.declared.call.Call.{Call}
 use Rattle.calls.specs.declared.call.Call.TheVariants.{Admit, Bring, Begin, Continue, Clear}
 use Rattle.calls.specs.declared.call.Answer.{Answer}
 use Rattle.calls.specs.declared.call.Answer.TheVariants.{Admitted, Brought, Begun, Continued, Cleared, Refused}
-use Rattle.calls.specs.Called.{World, Reply, world, Gives, Called, replied, resumed}
+use Rattle.calls.specs.Called.{World, world, Gives, Called, replied, resumed}
 use Rattle.calls.specs.History.{taken, ends_run}
 
 pub true-is-not-false : true ≡ false → ⊥

@@ -1,7 +1,6 @@
 -- What an accepted admit and an accepted begin leave, and histories cut in two. Assumes nothing.
-use Rattle.std.proofs.Common.{◌≡◌, ℕ, ◌+◌, ◌*◌, ◌≤◌, Bool, true, false, cond, leb, List, [], ◌∷◌, ◌++◌, map, length, drop, Some, None, Ok, Err, Option, Result, sym, refl, ap, ◌∙◌, subst, arith, length-append}
+use Rattle.std.proofs.Common.{◌≡◌, ℕ, ◌+◌, ◌*◌, ◌≤◌, true, leb, List, [], ◌∷◌, ◌++◌, map, length, drop, Some, None, Ok, Err, Result, sym, refl, ap, ◌∙◌, subst, arith, length-append}
 use lib.ListN.{length-map}
-use Rattle.language.specs.declared.faults.Fault.{Fault}
 use Rattle.language.specs.declared.faults.BeginRefusal.{BeginRefusal}
 use Rattle.language.specs.declared.values.ValueType.{ValueType}
 use Rattle.host.specs.Meaning.{Meaning}
@@ -25,7 +24,7 @@ use Rattle.admission.specs.Judged.{Verdict, Judged}
 use Rattle.calls.specs.Called.{World, world, Called}
 use Rattle.calls.specs.History.{Entry, History, taken, table_of}
 use Rattle.calls.proofs.Replies.{replied-taken, came-of, came-past}
-use Rattle.calls.proofs.Kept.{Holds, knows-loaded, begun-at, framed}
+use Rattle.calls.proofs.Kept.{Holds, knows-loaded, begun-at}
 
 -- the area between two parts of a list
 pub cut : (es fs : List Entry) (area after : Area) → History area (es ++ fs) after → (b : Area) × History area es b × History b fs after

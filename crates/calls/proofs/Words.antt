@@ -1,12 +1,11 @@
 -- A machine sees no words past its image, and a run in two parts is one run. Assumes nothing.
-use Rattle.std.proofs.Common.{◌≡◌, ℕ, zero, suc, ◌+◌, ◌*◌, ◌<◌, ◌≤◌, Bool, true, false, cond, eqb, ltb, List, [], ◌∷◌, ◌++◌, length, Ok, Err, Result, sym, refl, ap, ◌∙◌, subst, add_assoc, suc-add, zero-add, arith}
+use Rattle.std.proofs.Common.{◌≡◌, ℕ, zero, suc, ◌+◌, ◌*◌, ◌<◌, ◌≤◌, Bool, true, false, cond, eqb, ltb, List, ◌++◌, length, Ok, Err, Result, sym, refl, ap, ◌∙◌, add_assoc, suc-add, zero-add, arith}
 use lib.ListN.{get_or-append}
 use Rattle.std.proofs.lemmas.Bool.{ltb-true}
 use Rattle.language.specs.declared.faults.Halt.{Halt}
 use Rattle.host.specs.Serves.{Serves}
 use Rattle.image.specs.declared.instruction.Header.{Header}
 use Rattle.image.specs.declared.instruction.Local.TheVariants.{Call}
-use Rattle.image.specs.declared.instruction.Instruction.{Instruction}
 use Rattle.image.specs.declared.instruction.Instruction.TheVariants as instructions
 use Rattle.image.specs.Fetch.{code, operand, call, entry, decoded, fetched, unlawful}
 use Rattle.machine.specs.declared.registers.Outcome.{Outcome}

@@ -1,5 +1,5 @@
 -- What each call answers, and what area and host it leaves. Assumes nothing.
-use Rattle.std.specs.Prelude.{◌≡◌, ℕ, List, length, Ok, Err, Result}
+use Rattle.std.specs.Prelude.{◌≡◌, length, Ok, Err, Result}
 use Rattle.language.specs.declared.faults.Fault.{Fault}
 use Rattle.host.specs.Meaning.{Meaning}
 use Rattle.engine.specs.Calls.{Area, Resumed, bringing, beginning, resuming, clearing}

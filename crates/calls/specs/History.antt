@@ -11,7 +11,7 @@ use Rattle.calls.specs.declared.call.Call.{Call}
 use Rattle.calls.specs.declared.call.Call.TheVariants.{Admit, Bring, Begin, Continue, Clear}
 use Rattle.calls.specs.declared.call.Answer.{Answer}
 use Rattle.calls.specs.declared.call.Answer.TheVariants.{Admitted, Brought, Begun, Continued, Cleared, Refused}
-use Rattle.calls.specs.Called.{World, world, Called}
+use Rattle.calls.specs.Called.{world, Called}
 
 -- one call of a list: what was called, what the host then meant, what was answered, what the host means after it
 pub record Entry : Type 0 where

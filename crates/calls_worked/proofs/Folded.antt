@@ -1,6 +1,5 @@
 -- Calls one after another, computed: each answer and each world from the one before. Assumes nothing.
 use Rattle.std.proofs.Common.{◌≡◌, List, [], ◌∷◌, length, refl, ap}
-use Rattle.table.specs.declared.nodes.Node.{Node}
 use Rattle.engine.specs.Calls.{bringing, beginning, resuming, clearing}
 use Rattle.engine.specs.Admit.{admitting, words_of}
 use Rattle.admission.specs.Judged.{Verdict, Judged}

@@ -1,5 +1,5 @@
 -- The lists are as worked out. Assumes nothing.
-use Rattle.std.proofs.Common.{◌≡◌, [], ◌∷◌, Err, refl}
+use Rattle.std.proofs.Common.{[], ◌∷◌, Err, refl}
 use Rattle.table.specs.Answers.{fault}
 use Rattle.admission.specs.Judged.{Verdict}
 use Rattle.calls.specs.declared.call.Call.TheVariants.{Begin, Continue}

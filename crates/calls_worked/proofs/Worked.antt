@@ -1,7 +1,6 @@
 -- The list is as worked out. Assumes nothing.
-use Rattle.std.proofs.Common.{◌≡◌, ℕ, ◌≤◌, List, [], ◌∷◌, ◌++◌, Ok, Err, Result, refl, arith, lit≤}
+use Rattle.std.proofs.Common.{[], Ok, Err, Result, refl, arith, lit≤}
 use Rattle.language.specs.declared.faults.Fault.{Fault}
-use Rattle.table.specs.declared.nodes.Node.{Node}
 use Rattle.table.specs.Samples.{sum_table, sum_tree}
 use Rattle.table.specs.Layout.{WithinLimits}
 use Rattle.table.specs.Answers.{Sized, length-is-none, fault}
@@ -9,7 +8,7 @@ use Rattle.walk.specs.Programs.{walk_program}
 use Rattle.engine.specs.Calls.{Area, Resumed, beginning, resuming, clearing}
 use Rattle.engine.specs.Admit.{admitting}
 use Rattle.admission.specs.Judged.{Judged, refused_table, walked}
-use Rattle.calls.specs.History.{Entry, History, RunOf}
+use Rattle.calls.specs.History.{History, RunOf}
 use Rattle.calls_worked.specs.Sample.{declaration, fresh, earlier, admitted, between, begun, since, rest, sample, Worked}
 
 -- the area that came out, or else the old one

@@ -1,5 +1,5 @@
 -- Rule sets worked out by hand, from node table to ending: each table is admitted, or refused with its number and place; what is admitted is begun, and runs to its ending. Assumes nothing.
-use Rattle.std.specs.Prelude.{ℕ, false, List, [], ◌∷◌, replicate, ℤ, pos, negsuc, Some, None}
+use Rattle.std.specs.Prelude.{ℕ, false, List, [], ◌∷◌, replicate, pos, negsuc, Some, None}
 use Rattle.language.specs.declared.faults.Cause.TheVariants as causes
 use Rattle.language.specs.declared.faults.Halt.TheVariants.{Stopped}
 use Rattle.language.specs.declared.faults.Stop.{Stop}
@@ -9,14 +9,13 @@ use Rattle.language.specs.declared.values.Value.{Value}
 use Rattle.language.specs.declared.values.Value.TheVariants.{Number, Truth}
 use Rattle.host.specs.Meaning.{Meaning}
 use Rattle.machine.specs.declared.cells.Cell.TheVariants as cells
-use Rattle.machine.specs.declared.registers.Outcome.{Outcome}
 use Rattle.machine.specs.declared.registers.Outcome.TheVariants.{Finished, Halted}
 use Rattle.engine.specs.declared.record.Stage.TheVariants.{Blank}
 use Rattle.table.specs.declared.nodes.Node.{Node}
 use Rattle.table.specs.Samples.{sum_table, recursion_table, one_branch_table, two_branches_table, unset_argument_table, set_in_body_table, quotient_table, least_quotient_table, by_zero_table, grouped_table, both_sides_table}
 use Rattle.calls.specs.declared.call.Call.TheVariants.{Begin, Continue}
 use Rattle.calls.specs.declared.call.Answer.{Answer}
-use Rattle.calls.specs.declared.call.Answer.TheVariants.{Admitted, Begun, Continued, Refused}
+use Rattle.calls.specs.declared.call.Answer.TheVariants.{Admitted, Begun, Refused}
 use Rattle.calls.specs.Called.{World}
 use Rattle.calls.specs.Played.{Played, world_of}
 use Rattle.calls_worked.specs.Sample.{admit, went}

@@ -1,5 +1,5 @@
 -- A list of calls on a new area whose memory holds old numbers, worked out by hand. Assumes nothing.
-use Rattle.std.specs.Prelude.{◌≡◌, ℕ, true, cond, List, [], ◌∷◌, ◌++◌, replicate, pos, Some, None, ◌==◌, nat_lt}
+use Rattle.std.specs.Prelude.{◌≡◌, ℕ, cond, List, [], ◌∷◌, ◌++◌, replicate, pos, Some, None, ◌==◌, nat_lt}
 use Rattle.language.specs.declared.faults.Cause.{Cause}
 use Rattle.language.specs.declared.faults.Cause.TheVariants as causes
 use Rattle.language.specs.declared.faults.BeginRefusal.TheVariants as begins

@@ -1,18 +1,16 @@
 -- What can be in trouble, but never stops. Assumes nothing.
-use Rattle.std.proofs.Common.{◌≡◌, ℕ, zero, suc, ◌+◌, Bool, true, false, cond, eqb, ltb, leb, ◌⊎◌, List, [], ◌∷◌, Ok, Err, Result, sym, refl, ap, ◌∙◌, subst, inl, inr, arith}
+use Rattle.std.proofs.Common.{◌≡◌, ℕ, zero, suc, ◌+◌, Bool, true, false, cond, eqb, ltb, leb, List, Ok, Err, Result, refl, ap, arith}
 use Rattle.language.specs.declared.faults.Halt.{Halt}
 use Rattle.language.specs.declared.faults.Halt.TheVariants.{Troubled, Stopped}
 use Rattle.language.specs.declared.faults.Stop.{Stop}
 use Rattle.language.specs.declared.faults.Trouble.{Trouble}
-use Rattle.language.specs.declared.values.Operator.TheVariants.{Multiply, Divide, Add, Subtract, Less, LessOrEqual, Greater, GreaterOrEqual, Equal, And, Or}
 use Rattle.image.specs.declared.instruction.Header.{Header}
-use Rattle.image.specs.declared.instruction.Instruction.{Instruction}
 use Rattle.image.specs.Fetch.{fetched, decoded, operator, code, operand}
 use Rattle.machine.specs.declared.cells.Cell.{Cell}
 use Rattle.machine.specs.declared.cells.Cell.TheVariants.{Unset, Number, Truth, Link}
 use Rattle.machine.specs.declared.frames.Frame.{Frame}
 use Rattle.machine.specs.Cells.{bind, times, link, present, value, number, truth, values, numbers}
-use Rattle.machine.specs.Frames.{arguments, caller, four_links, frame, hop, outer, place, slot_in, within}
+use Rattle.machine.specs.Frames.{arguments, caller, four_links, frame, hop, outer, place}
 use Rattle.image.specs.declared.instruction.Slot.{Slot}
 use Rattle.stack.specs.Stack.{holds}
 

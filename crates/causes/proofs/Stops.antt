@@ -1,8 +1,8 @@
 -- Each stop has its cause. Assumes nothing.
-use Rattle.std.proofs.Common.{◌≡◌, ℕ, ◌+◌, ◌-◌, ◌<◌, Bool, true, false, cond, eqb, ltb, leb, ◌⊎◌, List, [], ◌∷◌, length, ℤ, pos, negsuc, ◌+ℤ◌, ◌-ℤ◌, ◌*ℤ◌, Some, None, Ok, Err, Option, Result, sym, refl, ap, ◌∙◌, subst, inl, inr, arith, eqb-true, leb-false}
+use Rattle.std.proofs.Common.{◌≡◌, ℕ, ◌+◌, ◌-◌, ◌<◌, Bool, true, false, cond, eqb, ltb, leb, List, [], ◌∷◌, length, ℤ, pos, negsuc, Some, None, Ok, Err, Option, Result, sym, refl, ap, ◌∙◌, subst, inl, inr, arith, eqb-true, leb-false}
 use lib.Signed.{lt_z, quot_z}
 use Rattle.language.specs.declared.faults.Halt.{Halt}
-use Rattle.language.specs.declared.faults.Halt.TheVariants.{Troubled, Stopped}
+use Rattle.language.specs.declared.faults.Halt.TheVariants.{Stopped}
 use Rattle.language.specs.declared.faults.Stop.{Stop}
 use Rattle.language.specs.declared.faults.Stop.TheVariants.{DivisorZero, OutOfRange, NoRoom, NoSuchNumber, NothingThere, PostingRefused}
 use Rattle.language.specs.declared.values.Operator.{Operator}
@@ -12,11 +12,8 @@ use Rattle.language.specs.declared.values.Value.TheVariants as vals
 use Rattle.language.specs.declared.values.ValueType.{ValueType}
 use Rattle.language.specs.declared.values.ValueType.TheVariants.{Void, Int, Bool as Truths}
 use Rattle.language.specs.Operators.{applied, negated, eq_z, greatest, in_range, least, number as number_of, on_truths, quotient}
-use Rattle.host.specs.Meaning.{Meaning, asked, posting, into, taken, charged}
+use Rattle.host.specs.Meaning.{Meaning, asked, into, charged}
 use Rattle.host.specs.Serves.{by_meaning, numbered, from_host, still, amount_at, flag_at, post_at}
-use Rattle.image.specs.declared.instruction.Header.{Header}
-use Rattle.image.specs.declared.instruction.Entry.{Entry}
-use Rattle.image.specs.declared.instruction.Slot.{Slot}
 use Rattle.image.specs.declared.instruction.Local.{Local as Locals}
 use Rattle.image.specs.declared.instruction.Local.TheVariants.{PushNumber, PushTruth, Load, Store, Operate, Not, Discard, Jump, JumpIfFalse, Open, Call, Return, ReturnValue}
 use Rattle.image.specs.declared.instruction.Instruction.{Instruction}
@@ -25,15 +22,15 @@ use Rattle.image.specs.Fetch.{fetched}
 use Rattle.machine.specs.declared.cells.Cell.{Cell}
 use Rattle.machine.specs.declared.cells.Cell.TheVariants.{Unset, Number, Truth, Link}
 use Rattle.machine.specs.declared.frames.Frame.{Frame}
-use Rattle.machine.specs.Cells.{bind, cell_of, link, value, number, numbers, truth, values, no_frame}
+use Rattle.machine.specs.Cells.{bind, cell_of, link, value, number, numbers, truth, values}
 use Rattle.machine.specs.Frames.{arguments, caller, four_links, frame, outer, place}
 use Rattle.machine.specs.Step.{ends_void, ends_with}
-use Rattle.stack.specs.Stack.{Stack, stack, Went, next, ended, step, carry, carry_local, onward, ask, post, holds, one, two, room, on_to, cell_at, below, framed}
+use Rattle.stack.specs.Stack.{Stack, stack, next, carry, carry_local, ask, post, holds, one, two, room, on_to, cell_at}
 use Rattle.causes.specs.Causes.{Exact, Outside, Wants, Holds, StoppedForACause}
 use Rattle.causes.specs.Causes.Exact.{product, quotient as quotient_of, sum, difference}
 use Rattle.causes.specs.Causes.Wants.{number as wants_number, truth as wants_truth, copy, links, slots}
 use Rattle.causes.specs.Causes.Holds.{divisor_zero, out_of_range, no_room, no_field, no_flag_field, no_account, no_amount, no_flag, closed, no_line}
-use Rattle.causes.proofs.Quiet.{Quiet, quiet_ok, quiet-trouble, quiet_bind, quiet-cond, quiet-fetched, quiet_frame, quiet-outer, quiet-place, quiet-caller, quiet-four-links, quiet-arguments, quiet-holds, quiet-link, quiet-value, quiet-number, quiet-truth, quiet-values, quiet-numbers, bind-stop, bind-first}
+use Rattle.causes.proofs.Quiet.{Quiet, quiet_ok, quiet-trouble, quiet_bind, quiet-fetched, quiet_frame, quiet-outer, quiet-place, quiet-caller, quiet-four-links, quiet-arguments, quiet-holds, quiet-link, quiet-value, quiet-truth, bind-stop, bind-first}
 
 -- a stop that cannot be
 never : {A X : Type 0} (r : Result A Halt) (c : Stop) → Quiet r → r ≡ Err (Stopped c) → X

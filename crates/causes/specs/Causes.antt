@@ -1,5 +1,5 @@
 -- Why a run stops: for each cause its condition, on the instruction, the stack and the host where the run stopped. Assumes nothing.
-use Rattle.std.specs.Prelude.{◌≡◌, ℕ, ◌+◌, ◌<◌, true, false, ◌⊎◌, List, ◌∷◌, length, ℤ, pos, ◌+ℤ◌, ◌-ℤ◌, ◌*ℤ◌, None, Ok, Err, int_div, int_lt}
+use Rattle.std.specs.Prelude.{◌≡◌, ℕ, ◌+◌, ◌<◌, true, ◌⊎◌, List, ◌∷◌, length, ℤ, pos, ◌+ℤ◌, ◌-ℤ◌, ◌*ℤ◌, None, Ok, Err, int_div, int_lt}
 use Rattle.language.specs.declared.faults.Halt.TheVariants.{Stopped}
 use Rattle.language.specs.declared.faults.Stop.{Stop}
 use Rattle.language.specs.declared.faults.Stop.TheVariants.{DivisorZero, OutOfRange, NoRoom, NoSuchNumber, NothingThere, PostingRefused}

@@ -1,5 +1,5 @@
 -- What admit answers and leaves, by the verdict on its table; and that it admits just what has a type. Assumes nothing.
-use Rattle.std.proofs.Common.{◌≡◌, ℕ, ◌+◌, ◌*◌, ◌<◌, ◌≤◌, true, false, cond, leb, List, ◌∷◌, ◌++◌, map, length, get_or, drop, Ok, Err, Result, sym, refl, ap, ◌∙◌, subst, arith, length-append}
+use Rattle.std.proofs.Common.{◌≡◌, ℕ, ◌+◌, ◌*◌, ◌<◌, ◌≤◌, cond, List, ◌∷◌, ◌++◌, map, length, drop, Ok, Err, Result, sym, refl, ap, ◌∙◌, subst, arith, length-append}
 use mathlib.Core.List.{map-map}
 use Rattle.std.proofs.lemmas.List.{length-map}
 use Rattle.std.proofs.lemmas.Bool.{le-leb, lt-leb}
@@ -7,7 +7,6 @@ use Rattle.language.specs.declared.faults.Fault.{Fault}
 use Rattle.language.specs.declared.faults.Cause.TheVariants.{Buffer}
 use Rattle.language.specs.declared.values.ValueType.{ValueType}
 use Rattle.language.specs.Numbers.{type_number}
-use Rattle.machine.specs.declared.cells.Cell.{Cell}
 use Rattle.rules.specs.Resolved.{Rules}
 use Rattle.rules.specs.Translate.{Laid, translated, image}
 use Rattle.table.specs.declared.nodes.Node.{Node}
@@ -21,9 +20,8 @@ use Rattle.verdict.proofs.Typed.{typed-accepted}
 use Rattle.admission.specs.Judged.{Verdict, Judged, walked}
 use Rattle.admission.proofs.Verdicts.{one-verdict, accepted-walk}
 use Rattle.engine.specs.declared.record.Stage.{Stage}
-use Rattle.engine.specs.declared.record.Stage.TheVariants.{Ready}
-use Rattle.engine.specs.Calls.{Area, LeftArea, area, holding, refused, told}
-use Rattle.engine.specs.Admit.{image_of, known_of, admitting, words_of, AdmitGave, Typed, AdmitsJustTyped}
+use Rattle.engine.specs.Calls.{Area, LeftArea, holding, refused, told}
+use Rattle.engine.specs.Admit.{image_of, known_of, admitting, AdmitGave, Typed, AdmitsJustTyped}
 
 -- an image has two words more than twice its codes
 pub image-length : (t : ValueType) (code : List Instr) → length (image_of t code) ≡ 2 + 2 * length code

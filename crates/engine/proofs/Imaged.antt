@@ -1,5 +1,5 @@
 -- An image written part by part over the start of a buffer. Assumes nothing.
-use Rattle.std.proofs.Common.{◌≡◌, ℕ, zero, suc, ◌+◌, ◌*◌, ◌<◌, ◌≤◌, List, [], ◌∷◌, ◌++◌, map, length, get_or, take, drop, set, sym, refl, ap, ◌∙◌, append_assoc, add-zero, arith, length-append, take-append-drop, drop-drop}
+use Rattle.std.proofs.Common.{◌≡◌, ℕ, suc, ◌+◌, ◌*◌, ◌<◌, ◌≤◌, List, [], ◌∷◌, ◌++◌, map, length, get_or, take, drop, set, sym, refl, ap, ◌∙◌, append_assoc, add-zero, arith, length-append, take-append-drop, drop-drop}
 use Rattle.std.proofs.lemmas.List.{length-map, length-take-le, take_all, drop_all, take-append-le, drop-append-le, take_more, drop_more, map-append}
 use Rattle.walk.specs.declared.codes.Instr.{Instr}
 use Rattle.walk.specs.Lay.{instr}

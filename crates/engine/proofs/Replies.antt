@@ -1,5 +1,5 @@
 -- What a call answers and leaves is the reply to it. Assumes nothing.
-use Rattle.std.proofs.Common.{◌≡◌, ℕ, List, Ok, Err, Result, sym, refl, ap, ◌∙◌, subst, arith}
+use Rattle.std.proofs.Common.{◌≡◌, ℕ, List, Ok, Err, Result, sym, ap, subst, arith}
 use Rattle.language.specs.declared.faults.Fault.{Fault}
 use Rattle.host.specs.Meaning.{Meaning}
 use Rattle.machine.specs.declared.cells.Cell.{Cell}

@@ -1,5 +1,5 @@
 -- A list of calls on one work area and one host, each finding them as the one before left them. Assumes nothing.
-use Rattle.std.specs.Prelude.{◌≡◌, ℕ, List, [], ◌∷◌, ◌++◌, length, drop, Ok, Err, Result}
+use Rattle.std.specs.Prelude.{◌≡◌, ℕ, List, [], ◌∷◌, length, Ok, Err, Result}
 use Rattle.language.specs.declared.faults.Fault.{Fault}
 use Rattle.host.specs.Meaning.{Meaning}
 use Rattle.machine.specs.declared.cells.Cell.{Cell}

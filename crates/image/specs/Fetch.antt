@@ -1,5 +1,5 @@
 -- Which instruction stands at a code's number, where a lawful one does. Assumes nothing.
-use Rattle.std.specs.Prelude.{ℕ, ◌+◌, ◌/◌, ◌%◌, Bool, true, false, cond, List, pos, Ok, Err, Result, ◌==◌, nat_le, nat_lt, slice_index}
+use Rattle.std.specs.Prelude.{ℕ, ◌+◌, ◌/◌, ◌%◌, true, false, cond, List, pos, Ok, Err, Result, ◌==◌, nat_le, nat_lt, slice_index}
 use Rattle.language.specs.declared.faults.Halt.{Halt}
 use Rattle.language.specs.declared.faults.Halt.TheVariants.{Troubled}
 use Rattle.language.specs.declared.faults.Trouble.TheVariants.{Unlawful}

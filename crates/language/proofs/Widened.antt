@@ -1,5 +1,5 @@
 -- 32-bit operands worked in 64 bits lose nothing. Assumes nothing.
-use Rattle.std.proofs.Common.{◌≡◌, ℕ, zero, suc, ◌/◌, ◌^◌, ◌<◌, ◌≤◌, false, ℤ, pos, negsuc, neg_ℤ, refl, ap, ◌∙◌, div-le_self, arith, w32, w64, SFits, to_z, of_z, ne_eqb}
+use Rattle.std.proofs.Common.{◌≡◌, ℕ, zero, suc, ◌/◌, ◌≤◌, false, ℤ, pos, negsuc, neg_ℤ, refl, ap, ◌∙◌, div-le_self, arith, w32, w64, SFits, to_z, of_z, ne_eqb}
 use lib.Signed.{mag, quot_z}
 use Rattle.std.proofs.lemmas.Int.{to_z-of_z}
 use Rattle.language.specs.Operators.{eq_z}

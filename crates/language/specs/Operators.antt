@@ -1,10 +1,9 @@
 -- What the operators give. Assumes nothing.
-use Rattle.std.specs.Prelude.{ℕ, Bool, true, false, cond, not, ℤ, pos, negsuc, ◌+ℤ◌, ◌-ℤ◌, ◌*ℤ◌, Ok, Err, Result, ◌==◌, int_div, int_le, int_lt}
+use Rattle.std.specs.Prelude.{Bool, true, false, cond, not, ℤ, pos, negsuc, ◌+ℤ◌, ◌-ℤ◌, ◌*ℤ◌, Ok, Err, Result, ◌==◌, int_div, int_le, int_lt}
 use Rattle.language.specs.declared.values.Value.{Value}
 use Rattle.language.specs.declared.values.Value.TheVariants.{Number, Truth}
 use Rattle.language.specs.declared.values.Operator.{Operator}
 use Rattle.language.specs.declared.values.Operator.TheVariants.{Multiply, Divide, Add, Subtract, Less, LessOrEqual, Greater, GreaterOrEqual, Equal, And, Or}
-use Rattle.language.specs.declared.faults.Trouble.{Trouble}
 use Rattle.language.specs.declared.faults.Trouble.TheVariants.{WrongMark}
 use Rattle.language.specs.declared.faults.Stop.{Stop}
 use Rattle.language.specs.declared.faults.Stop.TheVariants.{DivisorZero, OutOfRange}

@@ -1,5 +1,5 @@
 -- One turn of a run. Assumes nothing.
-use Rattle.std.proofs.Common.{◌≡◌, ℕ, suc, ◌+◌, ◌-◌, ◌<◌, List, Ok, Err, Option, Result, sym, refl, ap, ◌∙◌, add-zero, add_assoc, arith}
+use Rattle.std.proofs.Common.{◌≡◌, ℕ, suc, ◌+◌, ◌-◌, ◌<◌, List, Ok, Err, Option, Result, sym, ap, ◌∙◌, add-zero, add_assoc, arith}
 use Rattle.language.specs.declared.faults.Halt.{Halt}
 use Rattle.language.specs.declared.values.Value.{Value}
 use Rattle.host.specs.Meaning.{Meaning}

@@ -1,5 +1,5 @@
 -- One step of the marked machine, and a run of so many. Assumes nothing.
-use Rattle.std.specs.Prelude.{◌≡◌, ℕ, List, ℤ, Some, None, Ok, Err, Option, Result}
+use Rattle.std.specs.Prelude.{◌≡◌, ℕ, List, Some, None, Ok, Err, Option, Result}
 use Rattle.language.specs.declared.faults.Halt.{Halt}
 use Rattle.language.specs.declared.values.Value.{Value}
 use Rattle.language.specs.declared.values.Value.TheVariants as vals
@@ -21,7 +21,7 @@ use Rattle.machine.specs.declared.registers.Flow.{Flow}
 use Rattle.machine.specs.declared.registers.Flow.TheVariants.{Next, Ended}
 use Rattle.machine.specs.Cells.{bind, value, number, numbers, wrong_mark}
 use Rattle.machine.specs.Frames.{at, frame}
-use Rattle.machine.specs.State.{State, state, Left, holds, under, pushed, loaded, stored, dropped, replaced, operated, turned, discarded, jumped, branched, opened, called, returned, returned_value}
+use Rattle.machine.specs.State.{State, Left, holds, under, pushed, loaded, stored, dropped, replaced, operated, turned, discarded, jumped, branched, opened, called, returned, returned_value}
 
 -- an instruction that touches the machine and its cells alone
 abbrev pub local : Local → Frame → State → Result State Halt

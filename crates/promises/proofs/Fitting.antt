@@ -1,5 +1,5 @@
 -- What typing makes lawful is lawful for the machine. Assumes nothing.
-use Rattle.std.proofs.Common.{ℕ, suc, ◌+◌, ◌<◌, arith}
+use Rattle.std.proofs.Common.{ℕ, suc, arith}
 use Rattle.rules.specs.Resolved.{Term, Terms, Action, Actions, Ending, Function, Functions, Rules}
 use Rattle.rules.specs.Resolved.Term.{integer, truth, read, negation, operation, choice, call, amount, flag, post}
 use Rattle.rules.specs.Resolved.Terms.{no_terms, term}

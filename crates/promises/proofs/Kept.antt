@@ -1,9 +1,8 @@
 -- The promises are kept. Assumes nothing.
-use Rattle.std.proofs.Common.{◌≡◌, ℕ, zero, suc, ◌+◌, ◌*◌, ◌≤◌, ◌⊎◌, List, [], ◌∷◌, Ok, Err, Option, Result, sym, refl, ap, ◌∙◌, subst, inl, inr, zero-add, one-add, arith}
+use Rattle.std.proofs.Common.{◌≡◌, ℕ, zero, suc, ◌+◌, ◌*◌, ◌≤◌, ◌⊎◌, List, [], ◌∷◌, Ok, Err, Option, Result, sym, refl, ap, ◌∙◌, subst, inl, inr, one-add, arith}
 use Rattle.language.specs.declared.faults.Halt.{Halt}
 use Rattle.language.specs.declared.faults.Halt.TheVariants.{Troubled, Stopped}
 use Rattle.language.specs.declared.faults.Trouble.{Trouble}
-use Rattle.language.specs.declared.faults.Stop.{Stop}
 use Rattle.language.specs.declared.values.Value.{Value}
 use Rattle.language.specs.declared.values.ValueType.{ValueType}
 use Rattle.host.specs.Meaning.{Meaning}
@@ -11,9 +10,9 @@ use Rattle.host.specs.Serves.{Serves, by_meaning}
 use Rattle.image.specs.declared.instruction.Header.{Header}
 use Rattle.machine.specs.declared.registers.Outcome.{Outcome}
 use Rattle.machine.specs.declared.registers.Outcome.TheVariants.{Paused, Finished, Halted}
-use Rattle.stack.specs.Stack.{Stack, Went, next, ended, Run, run, step, then_run, beginning}
+use Rattle.stack.specs.Stack.{Stack, Went, next, ended, run, step, then_run, beginning}
 use Rattle.causes.proofs.Stops.{stopped-for-a-cause}
-use Rattle.replay.specs.Script.{Script, by_script, Standing, standing, Piece, go_on, in_pieces, allowances}
+use Rattle.replay.specs.Script.{by_script, standing, Piece, go_on, in_pieces, allowances}
 use Rattle.replay.proofs.Runs.{pieces-are-one-script}
 use Rattle.rules.specs.Resolved.{Rules}
 use Rattle.rules.specs.Translate.{image, translated}

@@ -1,5 +1,5 @@
 -- What holds of every run of the image of a program that the typing rules admit, in whatever pieces and with whatever hosts it is run. Assumes nothing.
-use Rattle.std.specs.Prelude.{◌≡◌, ℕ, ◌*◌, ◌≤◌, ◌⊎◌, List, [], ◌∷◌, Ok, Err, Option, ◌≢◌}
+use Rattle.std.specs.Prelude.{◌≡◌, ℕ, ◌*◌, ◌≤◌, ◌⊎◌, List, [], ◌∷◌, Ok, Option, ◌≢◌}
 use Rattle.language.specs.declared.faults.Halt.TheVariants.{Troubled, Stopped}
 use Rattle.language.specs.declared.faults.Trouble.{Trouble}
 use Rattle.language.specs.declared.faults.Stop.{Stop}
@@ -19,7 +19,7 @@ use Rattle.table.specs.Tree.{Program}
 use Rattle.table.specs.Layout.{WithinLimits}
 use Rattle.rules.specs.Resolved.{Rules}
 use Rattle.rules.specs.Translate.{image, translated}
-use Rattle.rules.specs.Evaluate.{Eval, Env, done, stopped, evaluated}
+use Rattle.rules.specs.Evaluate.{Env, done, stopped, evaluated}
 use Rattle.typing.specs.Rules.{IsTyped}
 use Rattle.typing.specs.Limits.{WithinNames}
 use Rattle.safety.specs.Safety.{Is}

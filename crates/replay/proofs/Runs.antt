@@ -1,5 +1,5 @@
 -- A run with any host is a run with a script, and a run in pieces is one run. Assumes nothing.
-use Rattle.std.proofs.Common.{◌≡◌, ℕ, zero, suc, ◌+◌, List, [], ◌∷◌, ◌++◌, Ok, Err, Result, sym, refl, ap, ◌∙◌, subst, append_assoc, append-nil, add_assoc, suc-add, zero-add, arith}
+use Rattle.std.proofs.Common.{◌≡◌, ℕ, zero, suc, ◌+◌, List, [], ◌∷◌, ◌++◌, Ok, Err, Result, sym, refl, ap, ◌∙◌, subst, append_assoc, add_assoc, suc-add, zero-add}
 use Rattle.language.specs.declared.faults.Halt.{Halt}
 use Rattle.host.specs.Meaning.{Meaning}
 use Rattle.host.specs.Serves.{Serves, by_meaning}
@@ -7,7 +7,7 @@ use Rattle.image.specs.declared.instruction.Header.{Header}
 use Rattle.machine.specs.declared.registers.Outcome.{Outcome}
 use Rattle.machine.specs.declared.registers.Outcome.TheVariants.{Paused, Finished, Halted}
 use Rattle.stack.specs.Stack.{Stack, Went, next, ended, Run, run, step, then_run}
-use Rattle.replay.specs.Script.{Answer, Script, by_script, replayed, Standing, standing, Piece, go_on, in_pieces, allowances}
+use Rattle.replay.specs.Script.{Script, by_script, replayed, Standing, standing, Piece, go_on, in_pieces, allowances}
 use Rattle.replay.proofs.Steps.{Replays, step-replays}
 
 -- a run with more steps before it

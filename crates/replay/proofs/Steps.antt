@@ -1,5 +1,5 @@
 -- One step with any host is a step with a script of at most one answer. Assumes nothing.
-use Rattle.std.proofs.Common.{◌≡◌, ℕ, ◌+◌, Bool, true, false, cond, List, [], ◌∷◌, ◌++◌, length, ℤ, Some, None, Ok, Err, Result, sym, refl, ap, ◌∙◌, subst}
+use Rattle.std.proofs.Common.{◌≡◌, ℕ, ◌+◌, List, [], ◌∷◌, ◌++◌, length, ℤ, Some, None, Ok, Err, Result, refl}
 use Rattle.language.specs.declared.faults.Halt.{Halt}
 use Rattle.language.specs.declared.faults.Stop.{Stop}
 use Rattle.language.specs.declared.values.Value.{Value}
@@ -16,7 +16,7 @@ use Rattle.machine.specs.Cells.{bind, number, numbers, value}
 use Rattle.machine.specs.Frames.{frame}
 use Rattle.machine.specs.Step.{ends_void, ends_with}
 use Rattle.stack.specs.Stack.{Stack, stack, Went, next, ended, step, carry, carry_local, onward, ask, post as posts, holds, one, two, cell_at}
-use Rattle.replay.specs.Script.{Answer, Script, by_script, replayed, before, only_rest}
+use Rattle.replay.specs.Script.{Script, by_script, replayed, before, only_rest}
 use Rattle.replay.specs.Script.Answer.{amount, flag, post}
 
 -- some answers make a step with a host the step with those answers, whatever comes after them

@@ -1,5 +1,5 @@
 -- A script of answers as a host: each question or posting takes the next answer, whatever is asked. Assumes nothing.
-use Rattle.std.specs.Prelude.{◌≡◌, ℕ, ◌+◌, Bool, List, [], ◌∷◌, ◌++◌, ℤ, Ok, Err, Result}
+use Rattle.std.specs.Prelude.{◌≡◌, ℕ, ◌+◌, Bool, List, [], ◌∷◌, ℤ, Ok, Err, Result}
 use Rattle.language.specs.declared.faults.Halt.{Halt}
 use Rattle.language.specs.declared.faults.Stop.{Stop}
 use Rattle.language.specs.declared.faults.Stop.TheVariants.{NothingThere}
@@ -8,7 +8,7 @@ use Rattle.host.specs.Serves.{Serves, by_meaning}
 use Rattle.image.specs.declared.instruction.Header.{Header}
 use Rattle.machine.specs.declared.registers.Outcome.{Outcome}
 use Rattle.machine.specs.declared.registers.Outcome.TheVariants.{Paused, Finished, Halted}
-use Rattle.stack.specs.Stack.{Stack, Went, next, ended, Run, run, step}
+use Rattle.stack.specs.Stack.{Stack, Went, next, ended, Run, run}
 
 -- what a host answered: an amount, a flag or a posting, there or not
 pub data Answer : Type 0 where

@@ -1,5 +1,5 @@
 -- What a rule set comes to: evaluation on its resolved tree, from left to right, both operands always. It knows nothing of bases, links or cells. The host is a state of any kind that serves. Assumes nothing.
-use Rattle.std.specs.Prelude.{ℕ, zero, suc, Bool, true, false, cond, List, [], ◌∷◌, ◌++◌, map, length, take, drop, replicate, ℤ, pos, Some, None, Ok, Err, Option, Result, ◌==◌, nat_lt}
+use Rattle.std.specs.Prelude.{ℕ, zero, suc, Bool, cond, List, [], ◌∷◌, ◌++◌, map, length, take, drop, replicate, ℤ, pos, Some, None, Ok, Err, Option, Result, ◌==◌, nat_lt}
 use Rattle.language.specs.declared.faults.Halt.{Halt}
 use Rattle.language.specs.declared.faults.Halt.TheVariants.{Troubled, Stopped}
 use Rattle.language.specs.declared.faults.Stop.{Stop}
@@ -9,7 +9,7 @@ use Rattle.language.specs.declared.values.ValueType.{ValueType}
 use Rattle.language.specs.declared.values.ValueType.TheVariants.{Void, Int, Bool as Truths}
 use Rattle.language.specs.Operators.{applied, negated}
 use Rattle.host.specs.Serves.{Serves, numbered, amount_at, flag_at, post_at}
-use Rattle.rules.specs.Resolved.{Term, Terms, Action, Actions, Ending, Function, Functions, Rules, all}
+use Rattle.rules.specs.Resolved.{Term, Terms, Action, Actions, Ending, Function, Rules, all}
 use Rattle.rules.specs.Resolved.Term.{integer, truth, read, negation, operation, choice, call, amount, flag, post}
 use Rattle.rules.specs.Resolved.Terms.{no_terms, term}
 use Rattle.rules.specs.Resolved.Action.{assign, perform, perform_and_drop, if_then, if_else}

@@ -3,13 +3,12 @@ use Rattle.std.proofs.Common.{◌≡◌, ℕ, suc, ◌+◌, Bool, true, false, c
 use Rattle.language.specs.declared.values.ValueType.{ValueType}
 use Rattle.rules.specs.Evaluate.{Slots}
 use Rattle.rules.specs.Evaluate.{Env as Chain}
-use Rattle.typing.specs.Scopes.{Status, Named, Scope, Env, Found, find, lookup, found, or_outward, set}
+use Rattle.typing.specs.Scopes.{Status, Named, Scope, Env, Found, find, lookup, found, or_outward}
 use Rattle.typing.specs.Scopes.Status.{dec}
 use Rattle.typing.specs.Scopes.Named.{variable, function}
 use Rattle.safety.proofs.Places.{At}
 use Rattle.safety.proofs.Worlds.{Kind, Shape, Set, GrowsFrame, Grows}
 use Rattle.safety.proofs.Worlds.Kind.{kind}
-use Rattle.safety.proofs.Worlds.FillsFrame.{slot}
 
 -- what is promised of a function that has a number: the shape of the chain that it is declared on, its parameters and its result
 pub data Signature : Type 0 where

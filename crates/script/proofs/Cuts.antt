@@ -1,5 +1,5 @@
 -- A line cut before and after its first word. Assumes nothing.
-use Rattle.std.proofs.Common.{◌≡◌, ℕ, zero, suc, ◌<◌, ◌≤◌, Bool, true, false, cond, eqb, List, [], ◌∷◌, ◌++◌, length, get_or, take, drop, sym, refl, ap, ◌∙◌, append_assoc, append-nil, suc-le-suc, zero-le, add-zero, arith, length-drop, get_or-drop, true-eqb, false-eqb}
+use Rattle.std.proofs.Common.{◌≡◌, ℕ, zero, suc, ◌<◌, ◌≤◌, Bool, true, false, cond, eqb, List, [], ◌∷◌, ◌++◌, length, get_or, take, drop, sym, refl, ap, ◌∙◌, append_assoc, append-nil, suc-le-suc, add-zero, arith, length-drop, get_or-drop, true-eqb, false-eqb}
 use borrow.Author.Tests.{ne_false}
 use Rattle.script.specs.Words.{blank, closed, words, words_from}
 

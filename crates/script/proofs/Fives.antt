@@ -1,5 +1,5 @@
 -- One more node of a table. Assumes nothing.
-use Rattle.std.proofs.Common.{◌≡◌, ℕ, ◌+◌, ◌<◌, List, [], ◌∷◌, ◌++◌, length, get_or, sym, ap, ◌∙◌, subst, inl, inr, arith, below_more}
+use Rattle.std.proofs.Common.{◌≡◌, ℕ, ◌+◌, List, [], ◌∷◌, ◌++◌, length, ap, ◌∙◌, arith, below_more}
 use lib.ListN.{get_or-append}
 use Rattle.std.proofs.lemmas.List.{length_push, get_or_push}
 use Rattle.table.specs.declared.nodes.Node.{Node}

@@ -1,5 +1,5 @@
 -- The words of a line: its longest parts without a blank, in order. Assumes nothing.
-use Rattle.std.specs.Prelude.{◌≡◌, ℕ, Bool, true, cond, List, [], ◌∷◌, ◌++◌, ◌==◌}
+use Rattle.std.specs.Prelude.{ℕ, Bool, true, cond, List, [], ◌∷◌, ◌++◌, ◌==◌}
 
 -- a space, a tab or a carriage return
 abbrev pub blank : ℕ → Bool

@@ -13,7 +13,7 @@ use Rattle.machine.specs.declared.cells.Cell.{Cell}
 use Rattle.machine.specs.declared.cells.Cell.TheVariants.{Unset, Link}
 use Rattle.machine.specs.Step.{stepped}
 use Rattle.machine.specs.Step as marked
-use Rattle.machine.specs.Run.{Run, plus, onward, ran}
+use Rattle.machine.specs.Run.{plus, onward, ran}
 use Rattle.machine.specs.Begin.{begun}
 use Rattle.machine.specs.Begin as begins
 use Rattle.stack.specs.Stack.{Stack, Went, next, ended, step, then_run, run, beginning}

@@ -1,8 +1,7 @@
 -- The marked machine without what lies above its top: the stack is a list, its top first, and the number of cells only decides whether there is room. The host is a state of any kind that serves. Assumes nothing.
-use Rattle.std.specs.Prelude.{ℕ, zero, suc, ◌+◌, ◌-◌, Bool, cond, List, [], ◌∷◌, ◌++◌, length, drop, replicate, Some, None, Ok, Err, Option, Result, ◌==◌, nat_le}
+use Rattle.std.specs.Prelude.{ℕ, zero, suc, ◌+◌, ◌-◌, cond, List, [], ◌∷◌, ◌++◌, length, drop, replicate, Some, None, Ok, Err, Option, Result, ◌==◌, nat_le}
 use Rattle.language.specs.declared.faults.Halt.{Halt}
 use Rattle.language.specs.declared.values.Value.{Value}
-use Rattle.language.specs.declared.values.Value.TheVariants as vals
 use Rattle.language.specs.declared.values.ValueType.{ValueType}
 use Rattle.language.specs.declared.values.Operator.{Operator}
 use Rattle.language.specs.Operators.{applied, negated}

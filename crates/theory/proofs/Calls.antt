@@ -1,5 +1,5 @@
 -- A call's steps come to what calling comes to, however deep calls may nest. Assumes nothing.
-use Rattle.std.proofs.Common.{◌≡◌, ℕ, zero, suc, ◌+◌, ◌-◌, ◌*◌, ◌<◌, ◌≤◌, Bool, true, false, cond, eqb, List, [], ◌∷◌, ◌++◌, map, length, get_or, take, drop, replicate, Some, None, Ok, Err, Option, Result, sym, refl, ap, ◌∙◌, subst, arith, length-append, take-append-drop}
+use Rattle.std.proofs.Common.{◌≡◌, ℕ, zero, suc, ◌+◌, ◌-◌, ◌≤◌, Bool, true, false, cond, eqb, List, [], ◌∷◌, ◌++◌, map, length, get_or, take, drop, replicate, Some, None, Ok, Option, Result, sym, refl, ap, ◌∙◌, arith, length-append, take-append-drop}
 use lib.ListN.{length-map, length-replicate}
 use lib.Seq.{drop-append_seam}
 use Rattle.std.proofs.lemmas.List.{append_assoc}
@@ -14,7 +14,6 @@ use Rattle.image.specs.declared.instruction.Local.TheVariants.{Call, Return, Ret
 use Rattle.image.specs.declared.instruction.Instruction.TheVariants as instructions
 use Rattle.machine.specs.declared.cells.Cell.{Cell}
 use Rattle.machine.specs.declared.cells.Cell.TheVariants.{Unset, Link}
-use Rattle.machine.specs.declared.frames.Frame.{Frame}
 use Rattle.machine.specs.Cells.{bind, cell_of, link, present, value, times}
 use Rattle.machine.specs.Frames.{frame, caller, four_links, present_at, value_at as value_in, arguments}
 use Rattle.stack.specs.Stack.{Stack, stack, Went, next, cell_at, put_at, holds, room, onward, framed, below}
@@ -23,12 +22,12 @@ use Rattle.rules.specs.Resolved.Function.{function}
 use Rattle.rules.specs.Resolved.Functions.{no_functions, more}
 use Rattle.rules.specs.Translate.{end_actions, end_ending, end_function, end_functions}
 use Rattle.rules.specs.Evaluate.{Slots, Env, Eval, done, stopped, trouble, too_deep, and_then, back_under, leaving, given, frame_for, eval_body, invoked, numbered_function, calls_to}
-use Rattle.theory.proofs.Standing.{Program, Fetches, CallIn, entry_of, returning}
+use Rattle.theory.proofs.Standing.{Fetches, CallIn, returning}
 use Rattle.theory.proofs.Functions.{JumpsPast, BodyIn, BodiesIn}
-use Rattle.theory.proofs.Represent.{Bone, Skeleton, Fits, one, flat, height, base_of, frame_of, slot_cell, stacked, links, front, length-stacked, length-flat, stacked-append, at-stacked, set-stacked, at_here, at_under, set_here, set-under, flat-front, fits-back, fits-drop, fits-rest, frame-there, caller-link, back-link}
+use Rattle.theory.proofs.Represent.{Bone, Skeleton, Fits, one, flat, base_of, frame_of, slot_cell, stacked, links, front, length-stacked, length-flat, stacked-append, at-stacked, set-stacked, at_here, at_under, set_here, set-under, flat-front, fits-back, fits-drop, fits-rest, frame-there, caller-link, back-link}
 use Rattle.theory.proofs.Leads.{Setting, step_of, Leads, leads-on, here, After, Comes, Arrives, conf, value_at, trouble-comes, deep-comes, done-comes, more-comes, then-comes, room-comes}
 use Rattle.theory.proofs.Steps.{value_cell, holds-there, step-at}
-use Rattle.theory.proofs.Terms.{push_all, opened, Deep, CallsCome, actions-come, ending-comes, fits-length}
+use Rattle.theory.proofs.Terms.{push_all, opened, Deep, CallsCome, actions-come, ending-comes}
 
 -- arguments are slots that are set
 pushed-stacked : (vs : List Value) (w rest : List Cell) → push_all vs w ++ rest ≡ stacked (map Some vs) (w ++ rest)

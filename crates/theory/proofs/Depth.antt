@@ -1,5 +1,5 @@
 -- Calls nested deeper change no outcome of evaluation but 'too deep'. Assumes nothing.
-use Rattle.std.proofs.Common.{◌≡◌, ℕ, zero, suc, Bool, true, false, cond, eqb, ltb, ◌⊎◌, List, [], ◌∷◌, length, take, drop, ℤ, Some, None, Option, sym, refl, subst, inl, inr}
+use Rattle.std.proofs.Common.{◌≡◌, ℕ, zero, suc, Bool, true, false, eqb, ltb, ◌⊎◌, List, length, take, drop, Some, None, Option, sym, refl, subst, inl, inr}
 use Rattle.language.specs.declared.values.Value.{Value}
 use Rattle.language.specs.declared.values.Value.TheVariants.{Number, Truth}
 use Rattle.host.specs.Serves.{Serves}
@@ -10,7 +10,7 @@ use Rattle.rules.specs.Resolved.Action.{assign, perform, perform_and_drop, if_th
 use Rattle.rules.specs.Resolved.Actions.{no_actions, action}
 use Rattle.rules.specs.Resolved.Ending.{nothing, giving}
 use Rattle.rules.specs.Resolved.Function.{function}
-use Rattle.rules.specs.Evaluate.{Env, Eval, done, stopped, trouble, too_deep, and_then, some, wanted, number, truth_of, Calls, back_under, reaching, either, eval_term, eval_terms, eval_action, eval_actions, eval_ending, eval_body, invoked, leaving, given, frame_for, numbered_function, calls_to, typed, evaluated}
+use Rattle.rules.specs.Evaluate.{Env, Eval, done, stopped, trouble, too_deep, and_then, some, wanted, truth_of, Calls, back_under, either, eval_term, eval_terms, eval_action, eval_actions, eval_ending, invoked, numbered_function, calls_to, evaluated}
 
 -- an outcome, and the one with calls nested deeper: any where the first is too deep, else the same
 pub data Deepens {S A : Type 0} : Eval S A → Eval S A → Type 0 where

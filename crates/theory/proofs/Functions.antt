@@ -1,5 +1,5 @@
 -- Every function of a rule set, and the rule set itself, stand whole in the code. Assumes nothing.
-use Rattle.std.proofs.Common.{◌≡◌, ℕ, zero, suc, ◌+◌, ◌*◌, ◌<◌, ◌≤◌, List, [], ◌∷◌, ◌++◌, length, get_or, drop, Some, None, Option, sym, refl, ap, ◌∙◌, subst, arith, length-append}
+use Rattle.std.proofs.Common.{◌≡◌, ℕ, zero, suc, ◌+◌, ◌*◌, List, [], ◌∷◌, ◌++◌, length, get_or, drop, Some, refl, ap, ◌∙◌, subst, arith, length-append}
 use lib.Seq.{drop-append_seam}
 use Rattle.image.specs.declared.instruction.Local.TheVariants.{Jump}
 use Rattle.image.specs.declared.instruction.Instruction.TheVariants as instructions

@@ -1,17 +1,15 @@
 -- Where the machine's steps lead, beside how evaluation comes out. Assumes nothing.
-use Rattle.std.proofs.Common.{◌≡◌, ℕ, zero, suc, ◌+◌, ◌*◌, ◌<◌, ◌≤◌, Bool, true, false, cond, leb, List, [], ◌∷◌, ◌++◌, length, Some, None, Ok, Err, Option, Result, sym, refl, ap, ◌∙◌, subst, arith}
+use Rattle.std.proofs.Common.{◌≡◌, ℕ, ◌+◌, ◌≤◌, Bool, true, false, cond, leb, List, ◌∷◌, ◌++◌, length, Some, None, Ok, Err, Option, Result, sym, refl, ap, ◌∙◌, subst}
 use Rattle.std.proofs.lemmas.Bool.{leb-true}
 use Rattle.language.specs.declared.faults.Halt.{Halt}
 use Rattle.language.specs.declared.faults.Halt.TheVariants.{Troubled, Stopped}
 use Rattle.language.specs.declared.faults.Stop.{Stop}
-use Rattle.language.specs.declared.faults.Stop.TheVariants.{NoRoom}
 use Rattle.language.specs.declared.values.Value.{Value}
-use Rattle.language.specs.declared.values.Value.TheVariants as vals
 use Rattle.host.specs.Serves.{Serves}
 use Rattle.machine.specs.declared.cells.Cell.{Cell}
 use Rattle.machine.specs.Cells.{bind, cell_of}
 use Rattle.machine.specs.State.{no_room}
-use Rattle.stack.specs.Stack.{Stack, stack, Went, next, ended, step, room, onward}
+use Rattle.stack.specs.Stack.{Stack, stack, Went, next, step, room, onward}
 use Rattle.rules.specs.Evaluate.{Env, Eval, done, stopped, trouble, too_deep, and_then, some, wanted, valued, answered, charged}
 use Rattle.theory.specs.Runs.{place_at}
 use Rattle.theory.proofs.Standing.{Program, words, header}

@@ -1,12 +1,12 @@
 -- Where a piece of code stands in the whole, and what is fetched there. Assumes nothing.
-use Rattle.std.proofs.Common.{◌≡◌, ℕ, zero, suc, ◌+◌, ◌<◌, ◌≤◌, List, [], ◌∷◌, ◌++◌, map, length, get_or, drop, sym, refl, ap, ◌∙◌, arith, length-append, length-drop, get_or-drop, drop-drop}
+use Rattle.std.proofs.Common.{◌≡◌, ℕ, suc, ◌+◌, ◌<◌, List, [], ◌∷◌, ◌++◌, map, length, get_or, drop, sym, refl, ap, ◌∙◌, arith, length-append, length-drop, get_or-drop, drop-drop}
 use lib.ListN.{length-map}
 use lib.Seq.{drop-append_seam}
 use Rattle.std.proofs.lemmas.List.{append_assoc, get_or_append_left, get_or-append-add, get_or-map}
 use Rattle.std.proofs.lemmas.Bool.{lt-ltb, cond-true}
 use Rattle.language.specs.declared.values.ValueType.{ValueType}
 use Rattle.image.specs.Fetch.{code as code_at, operand as operand_at, fetched, decoded}
-use Rattle.rules.specs.Translate.{Laid, laid, image_of}
+use Rattle.rules.specs.Translate.{Laid, image_of}
 use Rattle.theory.specs.Runs.{header_for, place_at}
 
 -- an instruction stands at a number

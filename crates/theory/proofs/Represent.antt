@@ -1,15 +1,12 @@
 -- The stack that represents an environment: a frame for each on the chain, and between two frames whatever lies there. Assumes nothing.
-use Rattle.std.proofs.Common.{◌≡◌, ℕ, zero, suc, ◌+◌, ◌-◌, ◌*◌, ◌<◌, ◌≤◌, Bool, true, false, cond, eqb, ltb, leb, List, [], ◌∷◌, ◌++◌, map, length, take, drop, replicate, Some, None, Ok, Err, Option, Result, sym, refl, ap, ◌∙◌, subst, arith, length-append}
-use Rattle.std.proofs.lemmas.List.{append_assoc, append-nil}
+use Rattle.std.proofs.Common.{◌≡◌, ℕ, zero, suc, ◌+◌, ◌<◌, ◌≤◌, List, [], ◌∷◌, ◌++◌, length, take, drop, Some, None, Ok, Option, sym, refl, ap, ◌∙◌, subst, arith, length-append}
+use Rattle.std.proofs.lemmas.List.{append_assoc}
 use Rattle.std.proofs.lemmas.Bool.{lt-ltb, le-leb, eq-eqb, ne_eqb, cond-true, cond-false}
-use Rattle.language.specs.declared.faults.Halt.{Halt}
 use Rattle.language.specs.declared.values.Value.{Value}
-use Rattle.language.specs.declared.values.Value.TheVariants as vals
-use Rattle.image.specs.declared.instruction.Slot.{Slot}
 use Rattle.machine.specs.declared.cells.Cell.{Cell}
-use Rattle.machine.specs.declared.cells.Cell.TheVariants.{Unset, Number, Truth, Link}
+use Rattle.machine.specs.declared.cells.Cell.TheVariants.{Unset, Link}
 use Rattle.machine.specs.declared.frames.Frame.{Frame}
-use Rattle.machine.specs.Cells.{bind, cell_of, link, value, times, no_frame}
+use Rattle.machine.specs.Cells.{bind, cell_of, link, times}
 use Rattle.machine.specs.Frames.{frame, hop, outer, place, slot_in, within}
 use Rattle.stack.specs.Stack.{cell_at, put_at}
 use Rattle.rules.specs.Evaluate.{Slots, Env, slot_value, variable, set_slot, set_variable, behind, in_front}

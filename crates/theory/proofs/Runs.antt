@@ -1,23 +1,19 @@
 -- Runs end as evaluation does. Assumes nothing.
 use Rattle.std.proofs.Common.{◌≡◌, ℕ, zero, suc, ◌+◌, ◌*◌, ◌<◌, ◌≤◌, ◌⊎◌, List, Ok, Err, Option, Result, sym, refl, ap, ◌∙◌, subst, inl, inr, add_comm, suc-add, arith}
 use Rattle.language.specs.declared.faults.Halt.{Halt}
-use Rattle.language.specs.declared.faults.Halt.TheVariants.{Stopped}
-use Rattle.language.specs.declared.faults.Stop.{Stop}
-use Rattle.language.specs.declared.faults.Stop.TheVariants.{NoRoom}
 use Rattle.language.specs.declared.values.Value.{Value}
 use Rattle.host.specs.Serves.{Serves, by_meaning}
 use Rattle.image.specs.declared.instruction.Header.{Header}
 use Rattle.machine.specs.declared.registers.Outcome.{Outcome}
-use Rattle.machine.specs.declared.registers.Outcome.TheVariants.{Paused, Finished, Halted}
 use Rattle.stack.specs.Stack.{Stack, Went, next, ended, step, Run, then_run, run, beginning}
 use Rattle.rules.specs.Resolved.{Rules}
 use Rattle.rules.specs.Translate.{translated, image}
-use Rattle.rules.specs.Evaluate.{Env, Eval, done, stopped, trouble, too_deep, evaluated}
+use Rattle.rules.specs.Evaluate.{Eval, done, stopped, trouble, too_deep, evaluated}
 use Rattle.theory.specs.Lawful.{Lawful}
-use Rattle.theory.specs.Runs.{header_for, place_at, run_of, Ended, OutOfRoom, EndsAs, Reaches, DeeperSame, FinishesAsEvaluated, StopsAsEvaluated, TooDeepRunsOut, EndedStays, SomeAllowanceEnds, EndedAsEvaluated}
+use Rattle.theory.specs.Runs.{header_for, run_of, Ended, OutOfRoom, EndsAs, DeeperSame, FinishesAsEvaluated, StopsAsEvaluated, TooDeepRunsOut, EndedStays, SomeAllowanceEnds, EndedAsEvaluated}
 use Rattle.theory.proofs.Standing.{words, header}
 use Rattle.theory.proofs.Depth.{split, evaluated-deepens}
-use Rattle.theory.proofs.Leads.{Setting, step_of, Leads, here, full, more, After, Comes}
+use Rattle.theory.proofs.Leads.{Setting, Leads, here, full, more, After}
 use Rattle.theory.proofs.Whole.{setting_of, Ends, rules-come}
 
 abbrev run_in : {S : Type 0} → Setting S → ℕ → S → Stack → Run S

@@ -1,5 +1,5 @@
 -- The code of each piece of a rule set stands where its translation has laid it, and is fetched as it was meant. Assumes nothing.
-use Rattle.std.proofs.Common.{◌≡◌, ℕ, zero, suc, ◌+◌, ◌*◌, ◌/◌, ◌%◌, ◌<◌, ◌≤◌, Bool, true, false, List, [], ◌∷◌, ◌++◌, length, get_or, pos, Some, None, Ok, Err, Option, Result, sym, refl, ap, ◌∙◌, arith}
+use Rattle.std.proofs.Common.{◌≡◌, ℕ, ◌+◌, ◌*◌, ◌/◌, ◌%◌, ◌<◌, Bool, true, false, List, length, get_or, pos, Some, Ok, Result, refl, ap, ◌∙◌, arith}
 use Rattle.std.proofs.lemmas.Bool.{lt-ltb, le-leb, eq-eqb, cond-true}
 use Rattle.language.specs.declared.faults.Halt.{Halt}
 use Rattle.language.specs.declared.values.ValueType.{ValueType}
@@ -8,22 +8,20 @@ use Rattle.language.specs.declared.values.Operator.{Operator}
 use Rattle.language.specs.declared.values.Operator.TheVariants.{Multiply, Divide, Add, Subtract, Less, LessOrEqual, Greater, GreaterOrEqual, Equal, And, Or}
 use Rattle.language.specs.Numbers.{operator_number}
 use Rattle.image.specs.declared.instruction.Header.{Header}
-use Rattle.image.specs.declared.instruction.Slot.{Slot}
 use Rattle.image.specs.declared.instruction.Entry.{Entry}
 use Rattle.image.specs.declared.instruction.Local.{Local}
 use Rattle.image.specs.declared.instruction.Local.TheVariants.{PushNumber, PushTruth, Load, Store, Operate, Not, Discard, Jump, JumpIfFalse, Open, Call, Return, ReturnValue}
 use Rattle.image.specs.declared.instruction.Instruction.{Instruction}
 use Rattle.image.specs.declared.instruction.Instruction.TheVariants as instructions
 use Rattle.image.specs.Fetch.{fetched, decoded, slot, entry, target}
-use Rattle.rules.specs.Resolved.{Term, Terms, Action, Actions, Ending, Function, Functions, Rules}
+use Rattle.rules.specs.Resolved.{Term, Terms, Action, Actions, Ending, Function}
 use Rattle.rules.specs.Resolved.Term.{integer, truth, read, negation, operation, choice, call, amount, flag, post}
 use Rattle.rules.specs.Resolved.Terms.{no_terms, term}
 use Rattle.rules.specs.Resolved.Action.{assign, perform, perform_and_drop, if_then, if_else}
 use Rattle.rules.specs.Resolved.Actions.{no_actions, action}
 use Rattle.rules.specs.Resolved.Ending.{nothing, giving}
 use Rattle.rules.specs.Resolved.Function.{function}
-use Rattle.rules.specs.Resolved.Functions.{no_functions, more}
-use Rattle.rules.specs.Translate.{Laid, laid, image_of, truth_operand, gives, end_term, end_terms, end_action, end_actions, end_ending, end_function, end_functions, emit_term, emit_terms, emit_action, emit_actions, emit_ending, emit_function, emit_functions}
+use Rattle.rules.specs.Translate.{Laid, laid, image_of, truth_operand, gives, end_term, end_terms, end_action, end_actions, end_ending, emit_term, emit_terms, emit_action, emit_actions, emit_ending}
 use Rattle.rules.specs.Evaluate.{numbered_function}
 use Rattle.theory.specs.Runs.{header_for, place_at}
 use Rattle.theory.specs.Lawful.{LawfulTerm, LawfulTerms, LawfulAction, LawfulActions, LawfulEnding}

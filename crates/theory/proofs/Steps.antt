@@ -1,5 +1,5 @@
 -- What each instruction's step is, on the stack that represents an environment. Assumes nothing.
-use Rattle.std.proofs.Common.{◌≡◌, ℕ, zero, suc, ◌+◌, ◌-◌, ◌*◌, ◌<◌, ◌≤◌, Bool, true, false, cond, List, [], ◌∷◌, ◌++◌, length, drop, ℤ, Some, None, Ok, Err, Option, Result, sym, refl, ap, ◌∙◌, subst, arith, length-append}
+use Rattle.std.proofs.Common.{◌≡◌, ℕ, ◌+◌, ◌<◌, ◌≤◌, Bool, cond, List, ◌∷◌, ◌++◌, length, drop, ℤ, Some, Ok, Result, refl, ap, ◌∙◌, arith, length-append}
 use Rattle.std.proofs.lemmas.Bool.{le-leb, cond-true}
 use Rattle.language.specs.declared.faults.Halt.{Halt}
 use Rattle.language.specs.declared.values.Value.{Value}
@@ -7,19 +7,17 @@ use Rattle.language.specs.declared.values.Value.TheVariants as vals
 use Rattle.language.specs.declared.values.Operator.{Operator}
 use Rattle.language.specs.Operators.{applied, negated}
 use Rattle.host.specs.Serves.{numbered, amount_at, flag_at, post_at}
-use Rattle.image.specs.declared.instruction.Slot.{Slot}
-use Rattle.image.specs.declared.instruction.Local.TheVariants.{PushNumber, PushTruth, Load, Store, Operate, Not, Discard, Jump, JumpIfFalse, Open, Call, Return, ReturnValue}
+use Rattle.image.specs.declared.instruction.Local.TheVariants.{Load, Store, Operate, Not, Discard, JumpIfFalse, Open}
 use Rattle.image.specs.declared.instruction.Instruction.{Instruction}
 use Rattle.image.specs.declared.instruction.Instruction.TheVariants as instructions
 use Rattle.machine.specs.declared.cells.Cell.{Cell}
-use Rattle.machine.specs.declared.cells.Cell.TheVariants.{Unset, Number, Truth, Link}
-use Rattle.machine.specs.declared.frames.Frame.{Frame}
-use Rattle.machine.specs.Cells.{bind, cell_of, link, value, values}
-use Rattle.machine.specs.Frames.{frame, outer, place}
-use Rattle.stack.specs.Stack.{Stack, stack, Went, next, ended, cell_at, put_at, holds, room, push, on_to, onward, carry}
-use Rattle.rules.specs.Evaluate.{Env, variable, set_variable}
-use Rattle.theory.proofs.Standing.{Program, Fetches}
-use Rattle.theory.proofs.Represent.{Bone, Skeleton, Fits, flat, height, base_of, frame_of, slot_place, length-flat, set_below, frame-there, outer-there, variable-there, Assigns, assigned-there}
+use Rattle.machine.specs.declared.cells.Cell.TheVariants.{Number, Truth, Link}
+use Rattle.machine.specs.Cells.{bind, cell_of, value, values}
+use Rattle.machine.specs.Frames.{frame, place}
+use Rattle.stack.specs.Stack.{stack, Went, next, cell_at, put_at, holds, room, push, on_to, onward, carry}
+use Rattle.rules.specs.Evaluate.{Env, variable}
+use Rattle.theory.proofs.Standing.{Fetches}
+use Rattle.theory.proofs.Represent.{Bone, Skeleton, Fits, flat, height, base_of, frame_of, slot_place, length-flat, set_below, frame-there, outer-there, variable-there, Assigns}
 use Rattle.theory.proofs.Leads.{Setting, step_of, conf}
 
 -- a value's cell gives the value

@@ -1,5 +1,5 @@
 -- The machine's steps over the code of terms and actions come to what their evaluation comes to. Assumes nothing.
-use Rattle.std.proofs.Common.{◌≡◌, ℕ, zero, suc, ◌+◌, ◌*◌, ◌<◌, ◌≤◌, Bool, true, false, cond, ltb, List, [], ◌∷◌, ◌++◌, length, take, drop, pos, Some, None, Ok, Err, Option, Result, sym, refl, ap, ◌∙◌, subst, arith, length-append}
+use Rattle.std.proofs.Common.{◌≡◌, ℕ, suc, ◌+◌, ◌*◌, ◌<◌, Bool, true, false, cond, ltb, List, [], ◌∷◌, length, take, drop, pos, Some, None, Ok, Option, refl, ap, arith, length-append}
 use Rattle.std.proofs.lemmas.Bool.{ltb-true}
 use Rattle.language.specs.declared.values.Value.{Value}
 use Rattle.language.specs.declared.values.Value.TheVariants as vals
@@ -18,9 +18,9 @@ use Rattle.rules.specs.Resolved.Action.{assign, perform, perform_and_drop, if_th
 use Rattle.rules.specs.Resolved.Actions.{no_actions, action}
 use Rattle.rules.specs.Resolved.Ending.{nothing, giving}
 use Rattle.rules.specs.Translate.{end_term, end_terms, end_action, end_actions, end_ending}
-use Rattle.rules.specs.Evaluate.{Env, Eval, done, stopped, trouble, too_deep, and_then, wanted, valued, answered, charged, number, truth_of, either, reaching, read_of, assigned, nothing_of, variable, set_variable, Calls, back_under, eval_term, eval_terms, eval_action, eval_actions, eval_ending}
+use Rattle.rules.specs.Evaluate.{Env, Eval, trouble, and_then, answered, charged, number, truth_of, either, read_of, assigned, nothing_of, variable, set_variable, Calls, back_under, eval_term, eval_terms, eval_action, eval_actions, eval_ending}
 use Rattle.theory.proofs.Standing.{Fetches, CallIn, TermIn, TermsIn, ActionIn, ActionsIn, EndingIn}
-use Rattle.theory.proofs.Represent.{Bone, Skeleton, Fits, none, one, flat, height, base_of, length-flat, assigned-there}
+use Rattle.theory.proofs.Represent.{Bone, Skeleton, Fits, none, one, flat, base_of, length-flat, assigned-there}
 use Rattle.theory.proofs.Leads.{Setting, step_of, Comes, Arrives, conf, value_at, trouble-comes, done-comes, more-comes, then-comes, same-comes, wanted-comes, room-comes, valued-comes, answered-comes, charged-comes}
 use Rattle.theory.proofs.Steps.{step-at, load_step, store_step, operate-step, not_step, discard-step, branch-step, open_step, amount-step, flag-step, post-step}
 

@@ -1,5 +1,5 @@
 -- A rule set's steps, from the beginning of a run, come to what its evaluation comes to. Assumes nothing.
-use Rattle.std.proofs.Common.{◌≡◌, ℕ, ◌+◌, ◌*◌, ◌<◌, List, [], ◌∷◌, ◌++◌, length, replicate, Some, None, Ok, Err, Option, Result, sym, refl, ap, ◌∙◌, subst, arith}
+use Rattle.std.proofs.Common.{◌≡◌, ℕ, ◌+◌, ◌*◌, ◌<◌, [], ◌∷◌, replicate, Some, None, Ok, Option, refl, ap, ◌∙◌, subst, arith}
 use lib.ListN.{length-replicate}
 use Rattle.language.specs.declared.values.Value.{Value}
 use Rattle.language.specs.declared.values.Value.TheVariants as vals
@@ -7,18 +7,17 @@ use Rattle.language.specs.declared.values.ValueType.{ValueType}
 use Rattle.language.specs.declared.values.ValueType.TheVariants.{Void, Int, Bool as Truths}
 use Rattle.host.specs.Serves.{Serves}
 use Rattle.image.specs.declared.instruction.Instruction.TheVariants as instructions
-use Rattle.machine.specs.declared.cells.Cell.{Cell}
-use Rattle.machine.specs.declared.cells.Cell.TheVariants.{Unset, Number, Truth, Link}
+use Rattle.machine.specs.declared.cells.Cell.TheVariants.{Number, Truth, Link}
 use Rattle.machine.specs.Cells.{bind, cell_of}
 use Rattle.machine.specs.Step.{ends_void, ends_with}
-use Rattle.stack.specs.Stack.{Stack, stack, Went, next, ended, carry, beginning}
+use Rattle.stack.specs.Stack.{Stack, stack, ended, beginning}
 use Rattle.rules.specs.Resolved.{Rules, all}
 use Rattle.rules.specs.Translate.{end_actions, end_ending, end_functions}
-use Rattle.rules.specs.Evaluate.{Env, Eval, typed, evaluated, calls_to}
+use Rattle.rules.specs.Evaluate.{Env, typed, evaluated, calls_to}
 use Rattle.theory.specs.Lawful.{Lawful}
 use Rattle.theory.proofs.Standing.{Fetches, finishing}
-use Rattle.theory.proofs.Functions.{program_of, RulesIn, rules-in}
-use Rattle.theory.proofs.Represent.{Bone, Skeleton, Fits, none, one, flat, base_of, frame_of}
+use Rattle.theory.proofs.Functions.{program_of, rules-in}
+use Rattle.theory.proofs.Represent.{Bone, Skeleton, Fits, none, one}
 use Rattle.theory.proofs.Leads.{Setting, step_of, here, Comes, conf, value_at, trouble-comes, then-comes}
 use Rattle.theory.proofs.Steps.{holds-there, step-at}
 use Rattle.theory.proofs.Terms.{Deep, actions-come, ending-comes}

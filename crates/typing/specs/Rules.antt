@@ -25,7 +25,7 @@ use Rattle.rules.specs.Resolved.Actions.{no_actions, action}
 use Rattle.rules.specs.Resolved.Ending.{nothing, giving}
 use Rattle.rules.specs.Resolved.Function.{function as function'}
 use Rattle.rules.specs.Resolved.Functions.{no_functions, more as more_functions}
-use Rattle.typing.specs.Scopes.{Env, Scope, Status, Named, bind, lookup, found, find, enter, set, choose}
+use Rattle.typing.specs.Scopes.{Env, Scope, Status, bind, lookup, found, find, enter, set, choose}
 use Rattle.typing.specs.Scopes.Status.{dec, init}
 use Rattle.typing.specs.Scopes.Named.{variable, function}
 

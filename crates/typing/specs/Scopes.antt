@@ -1,5 +1,5 @@
 -- Environments of the typing rules: a pile of scopes, the innermost first, each with its names. Assumes nothing.
-use Rattle.std.specs.Prelude.{ℕ, ◌+◌, Bool, true, false, cond, List, [], ◌∷◌, ◌++◌, Some, None, Option, ◌==◌}
+use Rattle.std.specs.Prelude.{ℕ, ◌+◌, Bool, true, false, cond, List, [], ◌∷◌, Some, None, Option, ◌==◌}
 use Rattle.language.specs.declared.values.ValueType.{ValueType}
 
 -- a variable has only been declared, or has been set

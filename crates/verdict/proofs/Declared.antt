@@ -10,7 +10,7 @@ use Rattle.rules.specs.Resolved.{Actions, Ending, Functions, Rules}
 use Rattle.table.specs.Tree.Declarations.{declaration}
 use Rattle.rules.specs.Resolved.Actions.{no_actions}
 use Rattle.rules.specs.Resolved.Ending.{giving}
-use Rattle.rules.specs.Resolved.Functions.{no_functions, more}
+use Rattle.rules.specs.Resolved.Functions.{no_functions}
 use Rattle.rules.specs.Translate.{gives, end_function, entries_of, entries, translated}
 use Rattle.typing.specs.Scopes as rules
 use Rattle.typing.specs.Scopes.{Env, is_there, find}
@@ -31,7 +31,7 @@ use Rattle.walk.specs.Sets.{none_set}
 use Rattle.walk.specs.Scopes.Thing.{variable, function}
 use Rattle.walk.specs.Types.{same_type}
 use Rattle.walk.specs.Expressions.{walk_statements}
-use Rattle.walk.specs.Programs.{Scope, new, room_for, shallow, declaring, type_of, walk_parameters, walk_final, inside, ending, walk_declaration, walk_declarations, walk_body}
+use Rattle.walk.specs.Programs.{Scope, new, room_for, shallow, declaring, type_of, walk_parameters, walk_final, inside, walk_declaration, walk_declarations, walk_body}
 use Rattle.verdict.specs.Verdict.{plain, AcceptsWhatIsTyped}
 use Rattle.verdict.proofs.Onward.{onward, along, same-type, typed-right}
 use Rattle.verdict.proofs.Piles.{Pile, level, size, env, scope, size-with}

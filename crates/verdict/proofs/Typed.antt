@@ -43,7 +43,7 @@ use Rattle.walk.specs.Scopes.{lookup}
 use Rattle.walk.specs.Scopes.Thing.{variable, function}
 use Rattle.walk.specs.Types.{same_type, typed}
 use Rattle.walk.specs.Expressions.{walk_expression, walk_statements}
-use Rattle.walk.specs.Programs.{Scope, at_or_above, new, room_for, shallow, declaring, type_of, walk_parameters, walk_final, inside, outermost, ending, walk_declaration, walk_declarations, walk_body, walk_program}
+use Rattle.walk.specs.Programs.{Scope, at_or_above, new, room_for, shallow, declaring, type_of, walk_parameters, walk_final, inside, outermost, walk_declaration, walk_declarations, walk_body, walk_program}
 use Rattle.verdict.specs.Verdict.{TypedWhereAccepted}
 use Rattle.verdict.proofs.Onward.{same_ok, ok-parts, bound, besides, right-typed, test-failed, types_same}
 use Rattle.verdict.proofs.Piles.{Pile, level, size, floor, env, scope, size-with}

@@ -9,7 +9,7 @@ use Rattle.table.specs.declared.kinds.Class.TheVariants as classes
 use Rattle.table.specs.declared.nodes.Node.{Node}
 use Rattle.table.specs.Kinds.{kind_at}
 use Rattle.table.specs.Listed.{node_at, end_at}
-use Rattle.table.specs.Tree.{Expression, Arguments, Statement, Block, ValueBlock, Statements}
+use Rattle.table.specs.Tree.{Expression, Statement, Block, ValueBlock, Statements}
 use Rattle.table.specs.Tree.Statement.{assignment}
 use Rattle.table.specs.Tree.Block.{block}
 use Rattle.table.specs.Tree.ValueBlock.{value_block}
@@ -23,7 +23,7 @@ use Rattle.walk.specs.Lay.{live}
 use Rattle.walk.specs.Scopes.{Env}
 use Rattle.walk.specs.Types.{Tallied}
 use Rattle.walk.specs.Known.{is_statement}
-use Rattle.walk.specs.Expressions.{calling, walk_statement, walk_expression}
+use Rattle.walk.specs.Expressions.{calling, walk_statement}
 use Rattle.walk.specs.Walked.{Gave, Grew, GrewCall, GrewOne}
 
 -- one thing after another, where the first goes through, and where it is refused

@@ -1,5 +1,5 @@
 -- The newest name, one entry after another. Assumes nothing.
-use Rattle.std.proofs.Common.{◌≡◌, ℕ, zero, suc, ◌+◌, ◌<◌, true, false, cond, eqb, Some, sym, refl, ap, ◌∙◌, add-one, arith}
+use Rattle.std.proofs.Common.{◌≡◌, ℕ, zero, suc, ◌+◌, ◌<◌, true, false, cond, eqb, Some, refl, ap, ◌∙◌, add-one, arith}
 use Rattle.walk.specs.Scopes.{newest}
 
 module _ (f : ℕ → ℕ) (k j x : ℕ) (e : k ≡ j + 1) where

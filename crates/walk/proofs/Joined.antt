@@ -1,5 +1,5 @@
 -- Those that both have set, flag by flag. Assumes nothing.
-use Rattle.std.proofs.Common.{◌≡◌, ℕ, zero, suc, ◌<◌, Bool, true, false, ◌&&◌, List, [], ◌∷◌, length, get_or, refl, ap, arith}
+use Rattle.std.proofs.Common.{◌≡◌, ℕ, zero, suc, ◌<◌, Bool, false, ◌&&◌, List, [], ◌∷◌, length, get_or, refl, ap, arith}
 use Rattle.walk.specs.Sets.{both}
 
 pub both-length : (xs ys : List Bool) → length xs ≡ length ys → length (both xs ys) ≡ length xs

@@ -1,9 +1,8 @@
 -- What is laid in the scratch. Assumes nothing.
-use Rattle.std.proofs.Common.{◌≡◌, ℕ, zero, suc, ◌+◌, ◌<◌, ◌≤◌, List, [], ◌∷◌, ◌++◌, length, take, set, refl, ap, arith}
-use Rattle.std.proofs.lemmas.List.{length-take-le, take_more_set}
-use Rattle.walk.specs.declared.codes.Instr.{Instr}
+use Rattle.std.proofs.Common.{◌≡◌, ℕ, zero, suc, List, [], ◌∷◌, length, take, set, refl, ap, arith}
+use Rattle.std.proofs.lemmas.List.{length-take-le}
 use Rattle.walk.specs.declared.codes.Code.{Code}
-use Rattle.walk.specs.Lay.{live, instr, laid, patched}
+use Rattle.walk.specs.Lay.{live}
 
 -- as many instructions as its length says
 pub live-length : (s : Code) → length (live s) ≡ s.len

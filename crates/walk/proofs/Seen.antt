@@ -1,5 +1,5 @@
 -- Lookup among the code's entries is lookup among the names that they stand for. Assumes nothing.
-use Rattle.std.proofs.Common.{◌≡◌, ℕ, ◌<◌, List, map, length, get_or, Result, sym, refl, ap, ◌∙◌}
+use Rattle.std.proofs.Common.{◌≡◌, ℕ, ◌<◌, List, length, get_or, Result, sym, ap, ◌∙◌}
 use Rattle.std.proofs.lemmas.List.{length-map, get_or-map}
 use Rattle.language.specs.declared.faults.Fault.{Fault}
 use Rattle.table.specs.declared.nodes.Node.{Node}

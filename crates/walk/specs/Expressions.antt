@@ -1,5 +1,5 @@
 -- The walk over expressions and statements: the type of an expression, or what a statement leaves set, with the code that is laid; or the refusal that is met first. Assumes nothing.
-use Rattle.std.specs.Prelude.{ℕ, ◌+◌, Bool, true, false, List, [], length, Ok, Result}
+use Rattle.std.specs.Prelude.{ℕ, ◌+◌, Bool, true, false, List, length, Ok, Result}
 use Rattle.language.specs.declared.faults.Fault.{Fault}
 use Rattle.language.specs.declared.values.ValueType.{ValueType}
 use Rattle.language.specs.declared.values.ValueType.TheVariants.{Void, Int, Bool as Truths}

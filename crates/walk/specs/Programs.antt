@@ -17,7 +17,7 @@ use Rattle.walk.specs.declared.codes.Instr.{Instr}
 use Rattle.walk.specs.Bind.{refusal, bind, beside}
 use Rattle.walk.specs.Lay.{laid, patched, aimed}
 use Rattle.walk.specs.Sets.{none_set, marked}
-use Rattle.walk.specs.Scopes.{Thing, Named, named, hosts, Env, lookup}
+use Rattle.walk.specs.Scopes.{Thing, named, hosts, Env, lookup}
 use Rattle.walk.specs.Scopes.Thing.{variable, function}
 use Rattle.walk.specs.Types.{same_type, typed}
 use Rattle.walk.specs.Expressions.{walk_expression, walk_statements}

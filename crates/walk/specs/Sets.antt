@@ -1,5 +1,5 @@
 -- Which variables are set: a flag for each entry of the name list, by its index. Assumes nothing.
-use Rattle.std.specs.Prelude.{ℕ, Bool, true, false, cond, ◌&&◌, List, [], ◌∷◌, set, replicate, Ok, Err, Result, slice_index_or, slice_set}
+use Rattle.std.specs.Prelude.{ℕ, Bool, false, cond, ◌&&◌, List, [], ◌∷◌, replicate, Ok, Err, Result, slice_index_or, slice_set}
 use Rattle.language.specs.declared.faults.Fault.{Fault}
 use Rattle.language.specs.declared.faults.WalkRefusal.TheVariants.{NotSet}
 use Rattle.walk.specs.Bind.{refusal}

@@ -3,7 +3,7 @@ use Rattle.std.specs.Prelude.{ℕ, Bool, true, false, cond, ◌&&◌, ◌||◌, 
 use Rattle.language.specs.declared.faults.Fault.{Fault}
 use Rattle.language.specs.declared.faults.WalkRefusal.TheVariants.{WrongType, WrongCount}
 use Rattle.language.specs.declared.values.ValueType.{ValueType}
-use Rattle.language.specs.declared.values.ValueType.TheVariants.{Void, Int, Bool as Truths}
+use Rattle.language.specs.declared.values.ValueType.TheVariants.{Int, Bool as Truths}
 use Rattle.language.specs.declared.values.Operator.{Operator}
 use Rattle.language.specs.declared.values.Operator.TheVariants.{Multiply, Divide, Add, Subtract, Less, LessOrEqual, Greater, GreaterOrEqual, Equal, And, Or}
 use Rattle.language.specs.Numbers.{type_number}

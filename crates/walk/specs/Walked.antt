@@ -1,5 +1,5 @@
 -- What the functions of the walk ask of the table, the names and the code, and what they answer. Assumes nothing.
-use Rattle.std.specs.Prelude.{◌≡◌, ℕ, ◌+◌, ◌*◌, ◌<◌, ◌≤◌, Bool, true, false, List, length, Some, Ok, Err, Result}
+use Rattle.std.specs.Prelude.{◌≡◌, ℕ, ◌+◌, ◌*◌, ◌<◌, ◌≤◌, true, false, List, length, Some, Ok, Err, Result}
 use Rattle.language.specs.declared.faults.Fault.{Fault}
 use Rattle.language.specs.declared.values.ValueType.{ValueType}
 use Rattle.language.specs.declared.values.Operator.{Operator}
@@ -10,7 +10,7 @@ use Rattle.table.specs.Listed.{node_at}
 use Rattle.table.specs.Tree.{Expression, Arguments, Statement, Statements, Block, ValueBlock, Final}
 use Rattle.table.specs.Tree.Expression.{negation, operation, choice}
 use Rattle.table.specs.Tree.Statement.{assignment, call_statement, if_then, if_else}
-use Rattle.table.specs.Layout.{Branch, of_expression, of_arguments, of_statement, of_statements, of_block, of_value_block, of_final}
+use Rattle.table.specs.Layout.{of_expression, of_arguments, of_statement, of_statements, of_block, of_value_block, of_final}
 use Rattle.table.specs.Layout.Branch.{branch}
 use Rattle.table.specs.Lays.{Lays, LaysAll}
 use Rattle.walk.specs.declared.codes.Instr.{Instr}

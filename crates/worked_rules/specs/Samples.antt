@@ -1,8 +1,8 @@
 -- Rule sets worked out by hand: what each evaluates to, and how the run of its image ends; computed by the definitions. Assumes nothing.
-use Rattle.std.specs.Prelude.{◌≡◌, ℕ, Bool, true, false, cond, List, [], ◌∷◌, ℤ, pos, negsuc, Some, None, Option, ◌==◌}
+use Rattle.std.specs.Prelude.{◌≡◌, ℕ, true, false, cond, [], ◌∷◌, ℤ, pos, negsuc, Some, None, Option, ◌==◌}
 use Rattle.language.specs.declared.faults.Halt.TheVariants.{Stopped}
 use Rattle.language.specs.declared.faults.Stop.{Stop}
-use Rattle.language.specs.declared.faults.Stop.TheVariants.{DivisorZero, OutOfRange, NoRoom, NoSuchNumber, PostingRefused}
+use Rattle.language.specs.declared.faults.Stop.TheVariants.{DivisorZero, OutOfRange, NoSuchNumber, PostingRefused}
 use Rattle.language.specs.declared.values.Operator.TheVariants.{Multiply, Divide, Add, Subtract, Equal, And, Or}
 use Rattle.language.specs.declared.values.Value.{Value}
 use Rattle.language.specs.declared.values.Value.TheVariants.{Number, Truth}
@@ -12,10 +12,10 @@ use Rattle.host.specs.Serves.{by_meaning}
 use Rattle.machine.specs.declared.registers.Outcome.{Outcome}
 use Rattle.machine.specs.declared.registers.Outcome.TheVariants.{Finished, Halted}
 use Rattle.stack.specs.Stack.{Run}
-use Rattle.rules.specs.Resolved.{Rules, Term, Terms}
-use Rattle.rules.specs.Resolved.Term.{integer, truth, read, negation, operation, choice, call, amount, flag, post}
+use Rattle.rules.specs.Resolved.{Rules, Term}
+use Rattle.rules.specs.Resolved.Term.{integer, truth, read, operation, choice, call, flag, post}
 use Rattle.rules.specs.Resolved.Terms.{no_terms, term}
-use Rattle.rules.specs.Resolved.Action.{assign, perform, perform_and_drop, if_then, if_else}
+use Rattle.rules.specs.Resolved.Action.{assign, perform, if_else}
 use Rattle.rules.specs.Resolved.Actions.{no_actions, action}
 use Rattle.rules.specs.Resolved.Ending.{nothing, giving}
 use Rattle.rules.specs.Resolved.Function.{function}

@@ -1,5 +1,5 @@
 -- Rows by field and kind. Assumes nothing.
-use Rattle.std.specs.Prelude.{◌≡◌, ℕ, ◌+◌, ◌*◌, ◌<◌, Bool, cond, List, [], ◌∷◌, ℤ, pos, Some, None, Option, ◌==◌, ◌≢◌, slice_index_or}
+use Rattle.std.specs.Prelude.{ℕ, ◌+◌, ◌*◌, ◌<◌, Bool, cond, List, [], ◌∷◌, ℤ, pos, Some, None, Option, ◌==◌, ◌≢◌, slice_index_or}
 use Rattle.worksheet.specs.declared.row.Entry.{Entry}
 use Rattle.worksheet.specs.declared.row.Entry.TheVariants.{Amount, Flag}
 use Rattle.worksheet.specs.declared.row.Row.{Row}

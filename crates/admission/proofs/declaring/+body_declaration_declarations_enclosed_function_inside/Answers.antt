@@ -1,13 +1,9 @@
-use Rattle.std.proofs.Common.{◌≡◌, ℕ, ◌+◌, ◌*◌, ◌<◌, ◌≤◌, Bool, true, false, List, [], ◌∷◌, ◌++◌, map, length, take, Ok, Err, sym, refl, ap, ◌∙◌, subst, arith, rules}
+use Rattle.std.proofs.Common.{◌+◌, true, false, [], length, Ok, Err, sym, refl, ap, ◌∙◌, subst, arith, rules}
 use Rattle.std.proofs.lemmas.Result.{err_from_is_err_and}
-use Rattle.language.specs.declared.values.ValueType.{ValueType}
 use Rattle.language.specs.declared.faults.WalkRefusal.TheVariants.{WrongType}
 use Rattle.rules.specs.Translate.{gives}
-use Rattle.table.specs.declared.nodes.Node.{Node}
-use Rattle.table.specs.declared.kinds.Class.TheVariants as classes
 use Rattle.table.specs.Kinds.{kind_at, class_or}
-use Rattle.table.specs.Listed.{node_at, end_at}
-use Rattle.table.specs.Tree.{Statements, Final, Parameter, Declarations, Body}
+use Rattle.table.specs.Listed.{end_at}
 use Rattle.table.specs.Tree.Declaration.{function}
 use Rattle.table.specs.Layout.{of_body, of_declaration, of_declarations, of_statements, of_final, of_parameters}
 use Rattle.table.specs.Layout.Branches.{nil, cons}
@@ -17,19 +13,16 @@ use Rattle.table.proofs.Placed.{lays-here, lays-rises, lays-rises-all, lays-insi
 use Rattle.table.proofs.Rows.{declarations-ended}
 use Rattle.walk.specs.declared.names.Entry.{Entry}
 use Rattle.walk.specs.declared.names.What.TheVariants.{Function}
-use Rattle.walk.specs.Bind.{refusal, bind, beside}
+use Rattle.walk.specs.Bind.{refusal, bind}
 use Rattle.walk.specs.Lay.{live, laid, aimed}
-use Rattle.walk.specs.Types.{typed}
 use Rattle.walk.specs.Known.{type_or}
-use Rattle.walk.specs.Programs.{walk_declaration, walk_declarations, with_function, declaring, inner, walk_parameters, walk_body}
-use Rattle.walk.proofs.Exits.{gave-same, gave-beside}
-use Rattle.admission.specs.declared.scopes.Scope.{Scope}
+use Rattle.walk.specs.Programs.{walk_declaration, walk_declarations, declaring, inner, walk_parameters, walk_body}
 use Rattle.admission.specs.declared.scopes.Frame.{Frame}
-use Rattle.admission.specs.Standing.{scope_of, Ready}
+use Rattle.admission.specs.Standing.{scope_of}
 use Rattle.admission.specs.Walks.{is_declaration}
-use Rattle.admission.proofs.Entered.{one_more, ready-more, below_stays}
+use Rattle.admission.proofs.Entered.{ready-more, below_stays}
 use Rattle.admission.proofs.Progress.{is-declaration, no-declaration, body-ahead, stays-lower, declarations-step, declarations-refused, declarations-on}
-use Rattle.admission.proofs.Turns.{function-entered, enclosed-refused, enclosed-on, kept_on, grew-enclosed, body_at, body_refused, body-judged, inner-is, function-deep, function-refused, function-done, a-function, a-variable, gave-scoped, same-scoped, grew_none, scope_kept}
+use Rattle.admission.proofs.Turns.{function-entered, enclosed-refused, enclosed-on, kept_on, grew-enclosed, body_at, body_refused, body-judged, function-deep, function-refused, function-done, a-function, a-variable, gave-scoped, same-scoped, grew_none, scope_kept}
 use Rattle.admission.proofs.declaring.+body_declaration_declarations_enclosed_function_inside.Goals as goal
 
 pub body-overflow_add-i : goal.body-overflow_add-i

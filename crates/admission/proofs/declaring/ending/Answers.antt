@@ -1,4 +1,4 @@
-use Rattle.std.proofs.Common.{◌≡◌, refl, ap, arith}
+use Rattle.std.proofs.Common.{ap, arith}
 use Rattle.table.proofs.Rows.{no-final}
 use Rattle.table.proofs.Placed.{lays-rises-all}
 use Rattle.table.specs.Layout.{of_final}

@@ -1,6 +1,5 @@
-use Rattle.std.proofs.Common.{◌≡◌, sym, refl, ap, ◌∙◌, subst, arith}
+use Rattle.std.proofs.Common.{sym, ap, ◌∙◌, subst, arith}
 use Rattle.std.proofs.lemmas.Result.{err_from_is_err_and}
-use Rattle.table.specs.declared.kinds.Class.TheVariants as classes
 use Rattle.table.specs.Kinds.{kind_at, class_or}
 use Rattle.table.specs.Layout.{of_parameters, of_body}
 use Rattle.table.specs.Layout.Branches.{nil, cons}

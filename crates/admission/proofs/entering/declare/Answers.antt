@@ -1,11 +1,10 @@
-use Rattle.std.proofs.Common.{◌≡◌, ◌+◌, ◌<◌, Bool, List, [], ◌∷◌, ◌++◌, map, length, take, Ok, sym, refl, ap, ◌∙◌, arith}
-use Rattle.language.specs.declared.values.ValueType.{ValueType}
+use Rattle.std.proofs.Common.{◌+◌, [], Ok, sym, refl, ap, ◌∙◌, arith}
 use Rattle.walk.specs.declared.names.Entry.{Entry}
 use Rattle.walk.specs.declared.names.What.TheVariants.{Variable}
 use Rattle.walk.proofs.Exits.{goes}
 use Rattle.walk.specs.Programs.{with_variable}
 use Rattle.admission.specs.declared.scopes.Frame.{Frame}
-use Rattle.admission.specs.Standing.{scope_of, Ready}
+use Rattle.admission.specs.Standing.{scope_of}
 use Rattle.admission.proofs.Entered.{one_more, ready-more, below_stays}
 use Rattle.admission.proofs.entering.declare.Goals as goal
 

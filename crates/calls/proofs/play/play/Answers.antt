@@ -1,5 +1,4 @@
-use Rattle.std.proofs.Common.{◌<◌, length, refl, arith}
-use Rattle.calls.specs.declared.call.Call.TheVariants.{Clear}
+use Rattle.std.proofs.Common.{◌<◌, length, arith}
 use Rattle.calls.specs.Played.{world_of}
 use Rattle.calls.proofs.Plays.{wrote-more, all-wrote, carries-on}
 use Rattle.calls.proofs.Found.{can-go-on}

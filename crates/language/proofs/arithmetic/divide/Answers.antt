@@ -1,6 +1,6 @@
-use Rattle.std.proofs.Common.{◌≡◌, false, pos, ap, ◌∙◌}
+use Rattle.std.proofs.Common.{◌≡◌, ap, ◌∙◌}
 use lib.Signed.{quot_z}
-use Rattle.language.specs.Operators.{in_range, eq_z}
+use Rattle.language.specs.Operators.{in_range}
 use Rattle.language.proofs.Widened.{widened, quotient-wide, not-zero}
 use Rattle.language.proofs.arithmetic.divide.Goals as goal
 

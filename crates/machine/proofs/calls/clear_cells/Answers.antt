@@ -1,4 +1,4 @@
-use Rattle.std.proofs.Common.{◌≡◌, ◌+◌, set, sym, ap, ◌∙◌, add-one}
+use Rattle.std.proofs.Common.{◌+◌, set, sym, ap, ◌∙◌, add-one}
 use Rattle.machine.specs.declared.cells.Cell.TheVariants.{Unset}
 use Rattle.machine.specs.State.{cleared}
 use Rattle.machine.proofs.calls.clear_cells.Goals as goal

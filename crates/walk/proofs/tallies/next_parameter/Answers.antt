@@ -1,4 +1,4 @@
-use Rattle.std.proofs.Common.{◌≡◌, ◌+◌, ◌∷◌, drop, sym, ap, ◌∙◌}
+use Rattle.std.proofs.Common.{◌+◌, ◌∷◌, drop, sym, ap, ◌∙◌}
 use Rattle.walk.specs.Known.{comes, leading}
 use Rattle.walk.proofs.Leading.{leading-more, leading-other, leading-past}
 use Rattle.walk.proofs.tallies.next_parameter.Goals as goal

@@ -1,6 +1,5 @@
 use Rattle.std.proofs.Common.{refl}
-use Rattle.engine.specs.declared.call.Call.TheVariants.{Bring, Begin, Continue}
-use Rattle.engine.specs.declared.call.Answer.TheVariants.{Brought, Begun}
+use Rattle.engine.specs.declared.call.Answer.TheVariants.{Brought}
 use Rattle.engine.specs.Play.{world}
 use Rattle.engine.proofs.Replies.{accepted-reply, refused-reply, resumed-reply, unresumed-reply, that-call}
 use Rattle.engine.proofs.record.Record.call.Goals as goal

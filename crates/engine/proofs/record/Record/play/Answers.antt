@@ -1,5 +1,4 @@
-use Rattle.std.proofs.Common.{◌<◌, [], length, arith}
-use Rattle.engine.specs.declared.call.Call.TheVariants.{Clear}
+use Rattle.std.proofs.Common.{◌<◌, length, arith}
 use Rattle.engine.specs.Play.{world}
 use Rattle.engine.proofs.Plays.{answers-more, world-more}
 use Rattle.engine.proofs.record.Record.play.Goals as goal

@@ -1,4 +1,4 @@
-use Rattle.std.proofs.Common.{◌≡◌, sym, ap, ◌∙◌, arith}
+use Rattle.std.proofs.Common.{sym, ap, ◌∙◌}
 use Rattle.walk.specs.Lay.{live}
 use Rattle.engine.specs.Admit.{part_of}
 use Rattle.engine.specs.declared.record.admit.Part.TheVariants.{Operands}

@@ -1,4 +1,3 @@
-use Rattle.std.proofs.Common.{rules}
 use Rattle.machine.proofs.Steps.{post-step}
 use Rattle.machine.proofs.registers.Machine.carry_out.Goals as goal
 

@@ -1,4 +1,4 @@
-use Rattle.std.proofs.Common.{◌≡◌, ℕ, zero, suc, ◌-◌, get_or, replicate, pos, nat_abs, refl, ap, arith, rules}
+use Rattle.std.proofs.Common.{◌≡◌, ℕ, zero, suc, get_or, replicate, pos, nat_abs, refl, ap, arith, rules}
 use Rattle.record_host.proofs.totals.Totals.none.Goals as goal
 
 -- an array of zeros has zeros, at every place and past its end

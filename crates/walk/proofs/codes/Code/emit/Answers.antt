@@ -1,4 +1,4 @@
-use Rattle.std.proofs.Common.{◌<◌, length, refl, arith}
+use Rattle.std.proofs.Common.{refl, arith}
 use Rattle.std.proofs.lemmas.List.{take_more_set}
 use Rattle.walk.specs.Lay.{live}
 use Rattle.walk.proofs.codes.Code.emit.Goals as goal
