@@ -94,7 +94,7 @@ fn parameters(
 }
 
 // A variable or a function.
-#[cycle(body_declaration_declarations_enclosed_function_inside)]
+#[cycle(declarations_and_bodies)]
 fn declaration(
     nodes: &[Node],
     names: &mut [Entry],
@@ -120,7 +120,7 @@ fn declaration(
 }
 
 // Declarations from one node on, and the node where they end.
-#[cycle(body_declaration_declarations_enclosed_function_inside)]
+#[cycle(declarations_and_bodies)]
 fn declarations(
     nodes: &[Node],
     names: &mut [Entry],
@@ -150,7 +150,7 @@ fn declarations(
 }
 
 // The inside of a body or a program: its entry, with the parameters and the other slots of its frame; declarations; statements; ending.
-#[cycle(body_declaration_declarations_enclosed_function_inside)]
+#[cycle(declarations_and_bodies)]
 pub(crate) fn inside(
     nodes: &[Node],
     names: &mut [Entry],
@@ -180,7 +180,7 @@ pub(crate) fn inside(
 }
 
 // A body has its function's result type.
-#[cycle(body_declaration_declarations_enclosed_function_inside)]
+#[cycle(declarations_and_bodies)]
 fn body(
     nodes: &[Node],
     names: &mut [Entry],
@@ -228,7 +228,7 @@ impl Drop for Guard<'_> {
 }
 
 // A function's parameters and its body, in a scope of their own: names of its own, one level further in, until its end.
-#[cycle(body_declaration_declarations_enclosed_function_inside)]
+#[cycle(declarations_and_bodies)]
 fn enclosed(
     nodes: &[Node],
     names: &mut [Entry],
@@ -267,7 +267,7 @@ fn enclosed(
 }
 
 // A function: its name enters the scope around it, then a jump past it, its parameters and body, a return.
-#[cycle(body_declaration_declarations_enclosed_function_inside)]
+#[cycle(declarations_and_bodies)]
 fn function(
     nodes: &[Node],
     names: &mut [Entry],

@@ -37,7 +37,7 @@ fn read(
 }
 
 // A not: its operand, then 15.
-#[cycle(arguments_assignment_block_call_statement_choice_conditional_expression_if_else_if_then_invoke_negation_operation_statement_statements_value_block)]
+#[cycle(expressions_and_statements)]
 fn negation(
     nodes: &[Node],
     names: &[Entry],
@@ -57,7 +57,7 @@ fn negation(
 }
 
 // An operator: its operands, then 15.
-#[cycle(arguments_assignment_block_call_statement_choice_conditional_expression_if_else_if_then_invoke_negation_operation_statement_statements_value_block)]
+#[cycle(expressions_and_statements)]
 fn operation(
     nodes: &[Node],
     names: &[Entry],
@@ -80,7 +80,7 @@ fn operation(
 }
 
 // An if with a value: condition and both value blocks, then one 15.
-#[cycle(arguments_assignment_block_call_statement_choice_conditional_expression_if_else_if_then_invoke_negation_operation_statement_statements_value_block)]
+#[cycle(expressions_and_statements)]
 fn choice(
     nodes: &[Node],
     names: &[Entry],
@@ -109,7 +109,7 @@ fn choice(
 }
 
 // A value block: its statements, then its expression; what it sets is forgotten.
-#[cycle(arguments_assignment_block_call_statement_choice_conditional_expression_if_else_if_then_invoke_negation_operation_statement_statements_value_block)]
+#[cycle(expressions_and_statements)]
 fn value_block(
     nodes: &[Node],
     names: &[Entry],
@@ -129,7 +129,7 @@ fn value_block(
 }
 
 // The arguments of a call, each held against its parameter.
-#[cycle(arguments_assignment_block_call_statement_choice_conditional_expression_if_else_if_then_invoke_negation_operation_statement_statements_value_block)]
+#[cycle(expressions_and_statements)]
 fn arguments(
     nodes: &[Node],
     names: &[Entry],
@@ -161,7 +161,7 @@ fn arguments(
 }
 
 // A call of either kind: 13 and 14, its arguments, then 16 and 15.
-#[cycle(arguments_assignment_block_call_statement_choice_conditional_expression_if_else_if_then_invoke_negation_operation_statement_statements_value_block)]
+#[cycle(expressions_and_statements)]
 fn invoke(
     nodes: &[Node],
     names: &[Entry],
@@ -196,7 +196,7 @@ fn invoke(
 }
 
 // An expression.
-#[cycle(arguments_assignment_block_call_statement_choice_conditional_expression_if_else_if_then_invoke_negation_operation_statement_statements_value_block)]
+#[cycle(expressions_and_statements)]
 pub fn expression(
     nodes: &[Node],
     names: &[Entry],
@@ -242,7 +242,7 @@ pub fn expression(
 }
 
 // An assignment: 13 and 14, its expression, 15; only then is its variable set.
-#[cycle(arguments_assignment_block_call_statement_choice_conditional_expression_if_else_if_then_invoke_negation_operation_statement_statements_value_block)]
+#[cycle(expressions_and_statements)]
 fn assignment(
     nodes: &[Node],
     names: &[Entry],
@@ -269,7 +269,7 @@ fn assignment(
 }
 
 // A call that stands alone: a result is dropped.
-#[cycle(arguments_assignment_block_call_statement_choice_conditional_expression_if_else_if_then_invoke_negation_operation_statement_statements_value_block)]
+#[cycle(expressions_and_statements)]
 fn call_statement(
     nodes: &[Node],
     names: &[Entry],
@@ -289,7 +289,7 @@ fn call_statement(
 }
 
 // An if with no else: what was set before is set.
-#[cycle(arguments_assignment_block_call_statement_choice_conditional_expression_if_else_if_then_invoke_negation_operation_statement_statements_value_block)]
+#[cycle(expressions_and_statements)]
 fn if_then(
     nodes: &[Node],
     names: &[Entry],
@@ -316,7 +316,7 @@ fn if_then(
 }
 
 // An if with an else: what both blocks leave set is set.
-#[cycle(arguments_assignment_block_call_statement_choice_conditional_expression_if_else_if_then_invoke_negation_operation_statement_statements_value_block)]
+#[cycle(expressions_and_statements)]
 fn if_else(
     nodes: &[Node],
     names: &[Entry],
@@ -348,7 +348,7 @@ fn if_else(
 }
 
 // An if, with an else where its first block ends before it.
-#[cycle(arguments_assignment_block_call_statement_choice_conditional_expression_if_else_if_then_invoke_negation_operation_statement_statements_value_block)]
+#[cycle(expressions_and_statements)]
 fn conditional(
     nodes: &[Node],
     names: &[Entry],
@@ -372,7 +372,7 @@ fn conditional(
 }
 
 // A block: its statements, in their order.
-#[cycle(arguments_assignment_block_call_statement_choice_conditional_expression_if_else_if_then_invoke_negation_operation_statement_statements_value_block)]
+#[cycle(expressions_and_statements)]
 fn block(
     nodes: &[Node],
     names: &[Entry],
@@ -392,7 +392,7 @@ fn block(
 }
 
 // A statement: what it leaves set.
-#[cycle(arguments_assignment_block_call_statement_choice_conditional_expression_if_else_if_then_invoke_negation_operation_statement_statements_value_block)]
+#[cycle(expressions_and_statements)]
 fn statement(
     nodes: &[Node],
     names: &[Entry],
@@ -431,7 +431,7 @@ fn statement(
 }
 
 // Statements in their order, each from what the one before left set; and the node where they end.
-#[cycle(arguments_assignment_block_call_statement_choice_conditional_expression_if_else_if_then_invoke_negation_operation_statement_statements_value_block)]
+#[cycle(expressions_and_statements)]
 pub fn statements(
     nodes: &[Node],
     names: &[Entry],

@@ -25,7 +25,7 @@ use Rattle.walk.specs.Expressions.{reading, walk_expression, walk_arguments, wal
 use Rattle.walk.proofs.Exits.{goes, breaks, gave-same, gave-beside, grew-call, grew-judged, grew-one, grew-inner, decided, is-statement, no-statement, block_at, value-block-at, same-assignment, same-calling}
 use Rattle.walk.proofs.Apart.{no-expression, no-statement-kind}
 use Rattle.walk.proofs.Seen.{entry_seen, found-seen}
-use Rattle.walk.proofs.walking.+arguments_assignment_block_call_statement_choice_conditional_expression_if_else_if_then_invoke_negation_operation_statement_statements_value_block.Goals as goal
+use Rattle.walk.proofs.walking.+expressions_and_statements.Goals as goal
 
 pub arguments-loop-at-init : goal.arguments-loop-at-init
 arguments-loop-at-init t c =

@@ -23,7 +23,7 @@ use Rattle.admission.specs.Walks.{is_declaration}
 use Rattle.admission.proofs.Entered.{ready-more, below_stays}
 use Rattle.admission.proofs.Progress.{is-declaration, no-declaration, body-ahead, stays-lower, declarations-step, declarations-refused, declarations-on}
 use Rattle.admission.proofs.Turns.{function-entered, enclosed-refused, enclosed-on, kept_on, grew-enclosed, body_at, body_refused, body-judged, function-deep, function-refused, function-done, a-function, a-variable, gave-scoped, same-scoped, grew_none, scope_kept}
-use Rattle.admission.proofs.declaring.+body_declaration_declarations_enclosed_function_inside.Goals as goal
+use Rattle.admission.proofs.declaring.+declarations_and_bodies.Goals as goal
 
 pub body-overflow_add-i : goal.body-overflow_add-i
 body-overflow_add-i t c =

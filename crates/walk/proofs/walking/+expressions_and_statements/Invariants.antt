@@ -1,7 +1,7 @@
 -- Measures: four times the nodes remaining, with something more where a call keeps its node.
 use Rattle.std.proofs.Common.{◌+◌, ◌-◌, ◌*◌, length}
 use Rattle.walk.proofs.Along.{ArgumentsSoFar, RowSoFar}
-use Rattle.walk.proofs.walking.+arguments_assignment_block_call_statement_choice_conditional_expression_if_else_if_then_invoke_negation_operation_statement_statements_value_block.Given as goal
+use Rattle.walk.proofs.walking.+expressions_and_statements.Given as goal
 
 abbrev pub decreases-arguments : goal.decreases-arguments
 decreases-arguments l = 4 * (length l.nodes.now - l.from) + 2

@@ -1,7 +1,7 @@
 -- Measures: six times the nodes remaining, with something more where a call keeps its node.
 use Rattle.std.proofs.Common.{◌+◌, ◌-◌, ◌*◌, length}
 use Rattle.admission.proofs.Progress.{DeclarationsSoFar}
-use Rattle.admission.proofs.declaring.+body_declaration_declarations_enclosed_function_inside.Given as goal
+use Rattle.admission.proofs.declaring.+declarations_and_bodies.Given as goal
 
 abbrev pub decreases-body : goal.decreases-body
 decreases-body l = 6 * (length l.nodes.now - l.i)
