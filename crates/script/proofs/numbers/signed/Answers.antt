@@ -1,6 +1,6 @@
+use Rattle.std.proofs.Common.{rules}
 use Rattle.script.proofs.Digits.{after_minus}
 use Rattle.script.proofs.numbers.signed.Goals as goal
 
 pub returns-then-begins : goal.returns-then-begins
-returns-then-begins c =
-    after_minus c.args.text.now c.negative.result c.word.result c.if-begins.ensures.value c.word.ensures c.negative.ensures
+returns-then-begins c = search (rules, after_minus)
