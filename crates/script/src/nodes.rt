@@ -1,14 +1,14 @@
 // From the words after admit to the nodes of a table.
-ghost use Rattle.std.specs.Prelude.{IfOk};
+ghost use Rattle.std.specs.Prelude.{◌≡◌, MatchResult};
 ghost use Rattle.script.specs.Nodes.{InFives};
 
 use crate::problem::Problem;
 use std::alloc::Global;
 use table::nodes::Node;
 
-// Each five words are a node's kind, sub, value, end and place.
+// Each five words are a node's kind, sub, value, end and place; up to four words at the end are passed over.
 pub fn nodes(heap: Global, words: &[u32]) -> Result<Vec<Node>, Problem>
-    ensures { IfOk result (λ v. InFives words.now v.items) }
+    ensures { MatchResult result (λ v. InFives words.now v.items) (λ problem. problem ≡ Problem.NoMemory) }
 {
     let mut nodes = Vec::new(heap);
     for k in 0..words.len() / 5 {

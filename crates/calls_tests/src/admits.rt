@@ -1,0 +1,79 @@
+// Rule sets admitted and run.
+use crate::shared::{
+    ONE_BRANCH, RECURSION, SUM, SUM_IMAGE, UNSET_ARGUMENT, nothing_there, refusal, standing,
+};
+use engine::record::Record;
+use language::faults::Fault;
+use machine::cells::Cell;
+use script::nodes::nodes;
+use table::nodes::Node;
+
+// Admits a table and runs it, with so many cells that hold old numbers: the words of its image, and how the run stands.
+fn run(table: &[Node], room: usize) -> Result<(usize, (u32, u8, i32, u32)), Fault> {
+    let mut buffer = [99u32; 64];
+    let mut all_cells = [Cell::Number(99); 100];
+    let cells = &mut all_cells[..room.min(100)];
+    let mut host = nothing_there();
+    let mut record = Record::new();
+    let words = record.admit(&mut buffer, cells, table)?;
+    record.begin(&buffer, cells)?;
+    let ran = record.resume(&buffer, cells, &mut host, 1000)?;
+    Ok((words, standing(ran)))
+}
+
+// The same, with a refusal as numbers.
+fn told(table: &[Node], room: usize) -> Result<(usize, (u32, u8, i32, u32)), (u8, u32)> {
+    match run(table, room) {
+        Ok(told) => Ok(told),
+        Err(fault) => Err(refusal(fault)),
+    }
+}
+
+#[test]
+fn rule_sets_run_to_their_endings(rt: HostRuntime) {
+    let (Ok(sum), Ok(recursion)) = (nodes(rt.alloc(), &SUM), nodes(rt.alloc(), &RECURSION)) else {
+        panic!(rt; "no memory for the tables")
+    };
+    assert_eq!(rt; told(&sum, 100), Ok((16, (6, 1, 7, 0))));
+    assert_eq!(rt; told(&sum, 6), Ok((16, (2, 2, 43, 3))));
+    assert_eq!(rt; told(&recursion, 100), Ok((44, (60, 1, 10, 0))));
+}
+
+// The number and the place of the refusal of a table; 0 where it is admitted.
+fn refused(table: &[Node], buffer: &mut [u32]) -> (u8, u32) {
+    let cells = [Cell::Unset; 4];
+    let mut record = Record::new();
+    match record.admit(buffer, &cells, table) {
+        Ok(_) => (0, 0),
+        Err(fault) => refusal(fault),
+    }
+}
+
+#[test]
+fn variables_that_are_not_set_are_refused(rt: HostRuntime) {
+    let (Ok(branch), Ok(argument)) = (
+        nodes(rt.alloc(), &ONE_BRANCH),
+        nodes(rt.alloc(), &UNSET_ARGUMENT),
+    ) else {
+        panic!(rt; "no memory for the tables")
+    };
+    let mut buffer = [99u32; 64];
+    assert_eq!(rt; refused(&branch, &mut buffer), (17, 28));
+    assert_eq!(rt; refused(&argument, &mut buffer), (17, 27));
+    assert_eq!(rt; refused(&branch[..7], &mut buffer), (11, 0));
+    assert_eq!(rt; refused(&[], &mut buffer), (11, 0));
+    assert_eq!(rt; buffer, [99u32; 64]);
+}
+
+#[test]
+fn images_need_room(rt: HostRuntime) {
+    let Ok(sum) = nodes(rt.alloc(), &SUM) else {
+        panic!(rt; "no memory for the table")
+    };
+    let mut buffer = [99u32; 17];
+    assert_eq!(rt; refused(&sum, &mut buffer[..15]), (20, 0));
+    assert_eq!(rt; buffer, [99u32; 17]);
+    assert_eq!(rt; refused(&sum, &mut buffer[..16]), (0, 0));
+    assert_eq!(rt; buffer[..16], SUM_IMAGE[..]);
+    assert_eq!(rt; buffer[16], 99);
+}
