@@ -70,10 +70,13 @@ fn images_need_room(rt: HostRuntime) {
     let Ok(sum) = nodes(rt.alloc(), &SUM) else {
         panic!(rt; "no memory for the table")
     };
-    let mut buffer = [99u32; 17];
-    assert_eq!(rt; refused(&sum, &mut buffer[..15]), (20, 0));
-    assert_eq!(rt; buffer, [99u32; 17]);
-    assert_eq!(rt; refused(&sum, &mut buffer[..16]), (0, 0));
-    assert_eq!(rt; buffer[..16], SUM_IMAGE[..]);
-    assert_eq!(rt; buffer[16], 99);
+    let mut short = [99u32; 15];
+    assert_eq!(rt; refused(&sum, &mut short), (20, 0));
+    assert_eq!(rt; short, [99u32; 15]);
+    let mut exact = [99u32; 16];
+    assert_eq!(rt; refused(&sum, &mut exact), (0, 0));
+    assert_eq!(rt; exact, SUM_IMAGE);
+    let mut longer = [99u32; 17];
+    assert_eq!(rt; refused(&sum, &mut longer), (0, 0));
+    assert_eq!(rt; longer[16], 99);
 }

@@ -5,17 +5,64 @@ use calls::play::play;
 use engine::record::Record;
 use machine::cells::Cell;
 use script::nodes::nodes;
+use table::nodes::Node;
 
-// An answer as numbers: 1 admitted, 2 brought, 3 begun, 4 continued, 5 cleared, 6 refused; then its words or the refusal's number and place, or how the run stands.
-fn told(answer: Answer) -> (u8, (u32, u8, i32, u32)) {
+// An answer: 1 admitted, 2 brought, 3 begun, 4 continued, 5 cleared, 6 refused; then its words; then how the run stands, or the refusal's number and place.
+fn told(answer: Answer) -> (u8, usize, (u32, u8, i32, u32)) {
     match answer {
-        Answer::Admitted(words) => (1, (words as u32, 0, 0, 0)),
-        Answer::Brought(words) => (2, (words as u32, 0, 0, 0)),
-        Answer::Begun => (3, (0, 0, 0, 0)),
-        Answer::Continued(ran) => (4, standing(ran)),
-        Answer::Cleared => (5, (0, 0, 0, 0)),
-        Answer::Refused(fault) => (6, (0, fault.cause.number(), 0, fault.place)),
+        Answer::Admitted(words) => (1, words, (0, 0, 0, 0)),
+        Answer::Brought(words) => (2, words, (0, 0, 0, 0)),
+        Answer::Begun => (3, 0, (0, 0, 0, 0)),
+        Answer::Continued(ran) => (4, 0, standing(ran)),
+        Answer::Cleared => (5, 0, (0, 0, 0, 0)),
+        Answer::Refused(fault) => (6, 0, (0, fault.cause.number(), 0, fault.place)),
     }
+}
+
+static EXPECTED: [(u8, usize, (u32, u8, i32, u32)); 11] = [
+    (6, 0, (0, 31, 0, 0)),
+    (1, 16, (0, 0, 0, 0)),
+    (6, 0, (0, 34, 0, 0)),
+    (3, 0, (0, 0, 0, 0)),
+    (4, 0, (2, 0, 0, 0)),
+    (6, 0, (0, 17, 0, 28)),
+    (4, 0, (4, 1, 7, 0)),
+    (2, 16, (0, 0, 0, 0)),
+    (3, 0, (0, 0, 0, 0)),
+    (4, 0, (6, 1, 7, 0)),
+    (5, 0, (0, 0, 0, 0)),
+];
+
+// Twelve calls with places for eleven answers: how many were played, and the answers.
+fn played<'a>(sum: &'a [Node], branch: &'a [Node], image: &'a [u32]) -> (usize, [Answer; 11]) {
+    let calls = [
+        Call::Begin,
+        Call::Admit(sum),
+        Call::Continue(5),
+        Call::Begin,
+        Call::Continue(2),
+        Call::Admit(branch),
+        Call::Continue(10),
+        Call::Bring(image),
+        Call::Begin,
+        Call::Continue(1000),
+        Call::Clear,
+        Call::Begin,
+    ];
+    let mut buffer = [99u32; 20];
+    let mut cells = [Cell::Number(99); 12];
+    let mut host = nothing_there();
+    let mut record = Record::new();
+    let mut answers = [Answer::Begun; 11];
+    let count = play(
+        &mut record,
+        &mut buffer,
+        &mut cells,
+        &mut host,
+        &calls,
+        &mut answers,
+    );
+    (count, answers)
 }
 
 #[test]
@@ -23,50 +70,9 @@ fn lists_are_played(rt: HostRuntime) {
     let (Ok(sum), Ok(branch)) = (nodes(rt.alloc(), &SUM), nodes(rt.alloc(), &ONE_BRANCH)) else {
         panic!(rt; "no memory for the tables")
     };
-    let calls = [
-        Call::Begin,
-        Call::Admit(&sum),
-        Call::Continue(5),
-        Call::Begin,
-        Call::Continue(2),
-        Call::Admit(&branch),
-        Call::Continue(10),
-        Call::Bring(&SUM_IMAGE),
-        Call::Begin,
-        Call::Continue(1000),
-        Call::Clear,
-        Call::Begin,
-    ];
-    let expected = [
-        (6, (0, 31, 0, 0)),
-        (1, (16, 0, 0, 0)),
-        (6, (0, 34, 0, 0)),
-        (3, (0, 0, 0, 0)),
-        (4, (2, 0, 0, 0)),
-        (6, (0, 17, 0, 28)),
-        (4, (4, 1, 7, 0)),
-        (2, (16, 0, 0, 0)),
-        (3, (0, 0, 0, 0)),
-        (4, (6, 1, 7, 0)),
-        (5, (0, 0, 0, 0)),
-    ];
-    let mut buffer = [99u32; 20];
-    let mut cells = [Cell::Number(99); 12];
-    let mut host = nothing_there();
-    let mut record = Record::new();
-    let mut answers = [Answer::Cleared; 11];
-    assert_eq!(rt;
-        play(
-            &mut record,
-            &mut buffer,
-            &mut cells,
-            &mut host,
-            &calls,
-            &mut answers
-        ),
-        11
-    );
+    let (count, answers) = played(&sum, &branch, &SUM_IMAGE);
+    assert_eq!(rt; count, 11);
     for k in 0..11 {
-        assert_eq!(rt; told(answers[k]), expected[k]);
+        assert_eq!(rt; told(answers[k]), EXPECTED[k]);
     }
 }
