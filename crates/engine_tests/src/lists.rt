@@ -1,5 +1,6 @@
 // Lists of calls, played.
-use crate::shared::{ONE_BRANCH, SUM, SUM_IMAGE, nothing_there, standing};
+use crate::shared::{SUM, nothing_there, told};
+use crate::tables::{ONE_BRANCH, SUM_TABLE};
 use calls::call::{Answer, Call};
 use calls::play::play;
 use engine::record::Record;
@@ -8,12 +9,12 @@ use script::nodes::nodes;
 use table::nodes::Node;
 
 // An answer: 1 admitted, 2 brought, 3 begun, 4 continued, 5 cleared, 6 refused; then its words; then how the run stands, or the refusal's number and place.
-fn told(answer: Answer) -> (u8, usize, (u32, u8, i32, u32)) {
+fn shown(answer: Answer) -> (u8, usize, (u32, u8, i32, u32)) {
     match answer {
         Answer::Admitted(words) => (1, words, (0, 0, 0, 0)),
         Answer::Brought(words) => (2, words, (0, 0, 0, 0)),
         Answer::Begun => (3, 0, (0, 0, 0, 0)),
-        Answer::Continued(ran) => (4, 0, standing(ran)),
+        Answer::Continued(ran) => (4, 0, told(Ok(ran))),
         Answer::Cleared => (5, 0, (0, 0, 0, 0)),
         Answer::Refused(fault) => (6, 0, (0, fault.cause.number(), 0, fault.place)),
     }
@@ -67,12 +68,15 @@ fn played<'a>(sum: &'a [Node], branch: &'a [Node], image: &'a [u32]) -> (usize, 
 
 #[test]
 fn lists_are_played(rt: HostRuntime) {
-    let (Ok(sum), Ok(branch)) = (nodes(rt.alloc(), &SUM), nodes(rt.alloc(), &ONE_BRANCH)) else {
+    let (Ok(sum), Ok(branch)) = (
+        nodes(rt.alloc(), &SUM_TABLE),
+        nodes(rt.alloc(), &ONE_BRANCH),
+    ) else {
         panic!(rt; "no memory for the tables")
     };
-    let (count, answers) = played(&sum, &branch, &SUM_IMAGE);
+    let (count, answers) = played(&sum, &branch, &SUM);
     assert_eq!(rt; count, 11);
     for k in 0..11 {
-        assert_eq!(rt; told(answers[k]), EXPECTED[k]);
+        assert_eq!(rt; shown(answers[k]), EXPECTED[k]);
     }
 }
