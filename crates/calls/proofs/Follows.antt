@@ -22,7 +22,7 @@ use Rattle.calls.specs.declared.call.Call.{Call}
 use Rattle.calls.specs.declared.call.Call.TheVariants.{Continue}
 use Rattle.calls.specs.declared.call.Answer.{Answer}
 use Rattle.calls.specs.declared.call.Answer.TheVariants.{Continued}
-use Rattle.calls.specs.History.{Entry, History, None-of, OneHost, finds, taken, ends_run, steps_of, steps, outcome_of, outcome_from, allowances, pieces, onward, host_where}
+use Rattle.calls.specs.History.{Entry, History, None-of, OneHost, Finds, taken, ends_run, steps_of, steps, outcome_of, outcome_from, allowances, pieces, onward, host_where}
 use Rattle.calls.specs.Law.{told_since}
 use Rattle.calls.proofs.Replies.{Lasting, turned, went, lasting, came-of}
 use Rattle.calls.proofs.Words.{on_to, run-same, run-split}
@@ -79,7 +79,7 @@ module _ (words : List ℕ) (k : Loaded) (cells : List Cell) (o : Outcome) where
         hosts = λ m last. by (taken e.answer) m last s.host-same further.hosts;
       }
     where
-      by : (b : Bool) (m last : Meaning) → e.left ≡ e.found → ((m last : Meaning) → OneHost m es last → last ≡ m) → finds b m e (λ j. OneHost j es last) → last ≡ m
+      by : (b : Bool) (m last : Meaning) → e.left ≡ e.found → ((m last : Meaning) → OneHost m es last → last ≡ m) → Finds b m e (λ j. OneHost j es last) → last ≡ m
       by true m last s further q = further e.left last q.1 ∙ s ∙ q.0
       by false m last s further q = further m last q
 

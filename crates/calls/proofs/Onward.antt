@@ -2,16 +2,16 @@
 use Rattle.std.proofs.Common.{◌≡◌, ℕ, zero, suc, ◌+◌, ◌≤◌, Bool, true, false, cond, List, [], ◌∷◌, ◌++◌, sym, refl, ◌∙◌, subst, append_assoc, append-nil, arith, lit≤}
 use Rattle.host.specs.Meaning.{Meaning}
 use Rattle.calls.specs.declared.call.Call.TheVariants.{Continue}
-use Rattle.calls.specs.History.{Entry, RunOf, OneHost, finds, taken, allowance_of, allowances}
+use Rattle.calls.specs.History.{Entry, RunOf, OneHost, Finds, taken, allowance_of, allowances}
 use Rattle.calls.specs.Law.{CanGoFar}
 use Rattle.calls.proofs.Found.{can-go-on}
 
 -- one more accepted continue, of the same host
 serves_more : (es : List Entry) (e : Entry) (m k : Meaning) → OneHost m es k → e.found ≡ k → taken e.answer ≡ true → OneHost m (es ++ e ∷ []) e.left
-serves_more [] e m k h f t = subst (λ b. finds b m e (λ j. OneHost j [] e.left)) (sym t) (f ∙ h, refl)
+serves_more [] e m k h f t = subst (λ b. Finds b m e (λ j. OneHost j [] e.left)) (sym t) (f ∙ h, refl)
 serves_more (d ∷ es) e m k h f t = by (taken d.answer) (λ m h. serves_more es e m k h f t) h
   where
-    by : (b : Bool) → ((m : Meaning) → OneHost m es k → OneHost m (es ++ e ∷ []) e.left) → finds b m d (λ j. OneHost j es k) → finds b m d (λ j. OneHost j (es ++ e ∷ []) e.left)
+    by : (b : Bool) → ((m : Meaning) → OneHost m es k → OneHost m (es ++ e ∷ []) e.left) → Finds b m d (λ j. OneHost j es k) → Finds b m d (λ j. OneHost j (es ++ e ∷ []) e.left)
     by true ih h = (h.0, ih d.left h.1)
     by false ih h = ih m h
 

@@ -158,13 +158,13 @@ host_where before [] = before
 host_where before (e ∷ es) = past e.answer before e.left (λ m. host_where m es)
 
 -- one host serves the run, from one meaning to another, and nothing else touches it: each accepted continue finds the meaning that the one before left
-abbrev pub finds : Bool → Meaning → Entry → (Meaning → Type 0) → Type 0
-finds true m e further = (e.found ≡ m) × further e.left
-finds false m e further = further m
+abbrev pub Finds : Bool → Meaning → Entry → (Meaning → Type 0) → Type 0
+Finds true m e further = (e.found ≡ m) × further e.left
+Finds false m e further = further m
 
 abbrev pub OneHost : Meaning → List Entry → Meaning → Type 0
 OneHost m [] last = last ≡ m
-OneHost m (e ∷ es) last = finds (taken e.answer) m e (λ k. OneHost k es last)
+OneHost m (e ∷ es) last = Finds (taken e.answer) m e (λ k. OneHost k es last)
 
 -- a run of an admitted rule set: some list of calls, on one area that was new at first and has so many cells, has it
 pub record RunOf (table : List Node) (cells : ℕ) (begun : Entry) (since : List Entry) : Type 0 where

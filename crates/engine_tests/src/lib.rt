@@ -4,8 +4,6 @@
 #[cfg(test)]
 mod admits;
 #[cfg(test)]
-mod calls;
-#[cfg(test)]
 mod lists;
 #[cfg(test)]
 mod refusals;
@@ -13,3 +11,5 @@ mod refusals;
 mod shared;
 #[cfg(test)]
 mod tables;
+#[cfg(test)]
+mod work_area;
