@@ -1,9 +1,11 @@
 -- The numbers of types, operators and causes, and the layer of every cause. Assumes nothing.
-use Rattle.std.specs.Prelude.{ℕ, cond, Some, None, Option, ◌==◌}
+use Rattle.std.specs.Prelude.{ℕ, ◌+◌, cond, Some, None, Option, ◌==◌}
 use Rattle.language.specs.declared.values.ValueType.{ValueType}
 use Rattle.language.specs.declared.values.ValueType.TheVariants.{Void, Int, Bool}
 use Rattle.language.specs.declared.values.Operator.{Operator}
 use Rattle.language.specs.declared.values.Operator.TheVariants.{Multiply, Divide, Add, Subtract, Less, LessOrEqual, Greater, GreaterOrEqual, Equal, And, Or}
+use Rattle.language.specs.declared.opcodes.Opcode.{Opcode}
+use Rattle.language.specs.declared.opcodes.Opcode.TheVariants.{PushNumber, PushTruth, Load, Store, Operate, Not, Discard, Jump, JumpIfFalse, OpenLinks, Call, Entry, Return, Amount, Flag, Post, End}
 use Rattle.language.specs.declared.faults.Trouble.{Trouble}
 use Rattle.language.specs.declared.faults.Trouble.TheVariants.{Unlawful, Unset, WrongMark, NoFrame}
 use Rattle.language.specs.declared.faults.Stop.{Stop}
@@ -128,3 +130,54 @@ operator_at n =
     (cond (n == 9) (Some Equal)
     (cond (n == 10) (Some And)
     (cond (n == 11) (Some Or) None))))))))))
+
+-- the number that stands for the code of an instruction in an image
+abbrev pub opcode_number : Opcode → ℕ
+opcode_number PushNumber = 1
+opcode_number PushTruth = 2
+opcode_number Load = 3
+opcode_number Store = 4
+opcode_number (Operate o) = 4 + operator_number o
+opcode_number Not = 16
+opcode_number Discard = 17
+opcode_number Jump = 18
+opcode_number JumpIfFalse = 19
+opcode_number OpenLinks = 20
+opcode_number Call = 21
+opcode_number Entry = 22
+opcode_number Return = 23
+opcode_number Amount = 24
+opcode_number Flag = 25
+opcode_number Post = 26
+opcode_number End = 27
+
+-- the code that a number stands for
+abbrev pub opcode_at : ℕ → Option Opcode
+opcode_at n =
+    cond (n == 1) (Some PushNumber)
+    (cond (n == 2) (Some PushTruth)
+    (cond (n == 3) (Some Load)
+    (cond (n == 4) (Some Store)
+    (cond (n == 5) (Some (Operate Multiply))
+    (cond (n == 6) (Some (Operate Divide))
+    (cond (n == 7) (Some (Operate Add))
+    (cond (n == 8) (Some (Operate Subtract))
+    (cond (n == 9) (Some (Operate Less))
+    (cond (n == 10) (Some (Operate LessOrEqual))
+    (cond (n == 11) (Some (Operate Greater))
+    (cond (n == 12) (Some (Operate GreaterOrEqual))
+    (cond (n == 13) (Some (Operate Equal))
+    (cond (n == 14) (Some (Operate And))
+    (cond (n == 15) (Some (Operate Or))
+    (cond (n == 16) (Some Not)
+    (cond (n == 17) (Some Discard)
+    (cond (n == 18) (Some Jump)
+    (cond (n == 19) (Some JumpIfFalse)
+    (cond (n == 20) (Some OpenLinks)
+    (cond (n == 21) (Some Call)
+    (cond (n == 22) (Some Entry)
+    (cond (n == 23) (Some Return)
+    (cond (n == 24) (Some Amount)
+    (cond (n == 25) (Some Flag)
+    (cond (n == 26) (Some Post)
+    (cond (n == 27) (Some End) None))))))))))))))))))))))))))

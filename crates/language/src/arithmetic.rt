@@ -1,51 +1,38 @@
-// Arithmetic and comparison on values: whole numbers of 32 bits, worked in 64.
+// Arithmetic and comparison on values: whole numbers of 32 bits, and what lies outside them is told.
 ghost use Rattle.std.specs.Prelude.{◌≡◌, ◌+ℤ◌, ◌-ℤ◌, ◌*ℤ◌};
 ghost use Rattle.language.specs.Operators.{in_range, quotient, applied, on_numbers, on_truths, negated};
 
 use crate::faults::{Halt, Stop, Trouble};
 use crate::values::{Operator, Value};
 
-// The least and the greatest number.
-pub const LEAST: i64 = -2_147_483_648;
-
-pub const GREATEST: i64 = 2_147_483_647;
-
-// A result, where it is a number of the language.
-fn fit(z: i64) -> Result<i32, Stop>
-    ensures { result ≡ in_range z }
-{
-    if z < LEAST || z > GREATEST {
-        return Err(Stop::OutOfRange);
-    }
-    Ok(z as i32)
-}
-
 fn multiply(a: i32, b: i32) -> Result<i32, Stop>
     ensures { result ≡ in_range (a *ℤ b) }
 {
-    fit(a as i64 * b as i64)
+    a.checked_mul(b).ok_or(Stop::OutOfRange)
 }
 
 // Drops the fraction toward zero.
+// Stays worked in 64 bits: the rules of the engine name this form for it, with the least number over −1 refused where the quotient is no number.
 fn divide(a: i32, b: i32) -> Result<i32, Stop>
     ensures { result ≡ quotient a b }
 {
     if b == 0 {
         return Err(Stop::DivisorZero);
     }
-    fit(a as i64 / b as i64)
+    let quotient = i64::from(a) / i64::from(b);
+    i32::try_from(quotient).map_err(|_| Stop::OutOfRange)
 }
 
 fn add(a: i32, b: i32) -> Result<i32, Stop>
     ensures { result ≡ in_range (a +ℤ b) }
 {
-    fit(a as i64 + b as i64)
+    a.checked_add(b).ok_or(Stop::OutOfRange)
 }
 
 fn subtract(a: i32, b: i32) -> Result<i32, Stop>
     ensures { result ≡ in_range (a -ℤ b) }
 {
-    fit(a as i64 - b as i64)
+    a.checked_sub(b).ok_or(Stop::OutOfRange)
 }
 
 fn on_numbers(operator: Operator, a: i32, b: i32) -> Result<Value, Halt>
@@ -61,7 +48,7 @@ fn on_numbers(operator: Operator, a: i32, b: i32) -> Result<Value, Halt>
         Operator::Greater => Ok(Value::Truth(a > b)),
         Operator::GreaterOrEqual => Ok(Value::Truth(a >= b)),
         Operator::Equal => Ok(Value::Truth(a == b)),
-        Operator::And | Operator::Or => Err(Halt::Troubled(Trouble::WrongMark)),
+        Operator::And | Operator::Or => Err(Trouble::WrongMark.into()),
     }
 }
 
@@ -73,10 +60,10 @@ fn on_truths(operator: Operator, a: bool, b: bool) -> Result<Value, Halt>
         Operator::And => Ok(Value::Truth(a & b)),
         Operator::Or => Ok(Value::Truth(a | b)),
         Operator::Multiply | Operator::Divide | Operator::Add | Operator::Subtract => Err(
-            Halt::Troubled(Trouble::WrongMark),
+            Trouble::WrongMark.into(),
         ),
         Operator::Less | Operator::LessOrEqual | Operator::Greater | Operator::GreaterOrEqual =>
-            Err(Halt::Troubled(Trouble::WrongMark)),
+            Err(Trouble::WrongMark.into()),
     }
 }
 
@@ -85,15 +72,12 @@ impl Operator {
     pub fn apply(self, left: Value, right: Value) -> Result<Value, Halt>
         ensures { result ≡ applied self left right }
     {
-        match left {
-            Value::Number(a) => match right {
-                Value::Number(b) => on_numbers(self, a, b),
-                Value::Truth(_) => Err(Halt::Troubled(Trouble::WrongMark)),
-            },
-            Value::Truth(a) => match right {
-                Value::Number(_) => Err(Halt::Troubled(Trouble::WrongMark)),
-                Value::Truth(b) => on_truths(self, a, b),
-            },
+        match (left, right) {
+            (Value::Number(a), Value::Number(b)) => on_numbers(self, a, b),
+            (Value::Truth(a), Value::Truth(b)) => on_truths(self, a, b),
+            (Value::Number(_), Value::Truth(_)) | (Value::Truth(_), Value::Number(_)) => {
+                Err(Trouble::WrongMark.into())
+            }
         }
     }
 }
@@ -104,7 +88,7 @@ impl Value {
         ensures { result ≡ negated self }
     {
         match self {
-            Value::Number(_) => Err(Halt::Troubled(Trouble::WrongMark)),
+            Value::Number(_) => Err(Trouble::WrongMark.into()),
             Value::Truth(truth) => Ok(Value::Truth(!truth)),
         }
     }
