@@ -1,3 +1,4 @@
 pub mod Meaning
 pub mod OneLine
+pub mod Refused
 pub mod Serves

@@ -1,5 +1,5 @@
 -- What a host means to a run, and what asking and posting give. Assumes nothing.
-use Rattle.std.specs.Prelude.{ℕ, ◌-◌, cond, ℤ, ◌+ℤ◌, Some, None, Ok, Err, Option, Result, ◌==◌}
+use Rattle.std.specs.Prelude.{ℕ, ◌-◌, cond, ℤ, ◌+ℤ◌, Some, None, Ok, Err, Option, Result, ◌==◌, nat_lt}
 use Rattle.std.proofs.Math.Bool as Bools
 use Rattle.language.specs.declared.faults.Stop.{Stop}
 use Rattle.language.specs.declared.faults.Stop.TheVariants.{NothingThere, PostingRefused}
@@ -10,6 +10,10 @@ pub record Meaning : Type 0 where
   pub flag : ℕ → Option Bools.Bool
   pub account : ℕ → Option ℤ
   pub lines : ℕ
+
+-- the totals of accounts that are open from 0 on below a number
+abbrev pub opened : ℕ → (ℕ → ℤ) → ℕ → Option ℤ
+opened accounts total account = cond (nat_lt account accounts) (Some (total account)) None
 
 -- asking for what may not be there
 abbrev pub asked : {A : Type 0} → Option A → Result A Stop

@@ -5,7 +5,7 @@ ghost use Rattle.host.specs.OneLine.{meaning};
 use crate::Host;
 use language::faults::Stop;
 
-#[derive(Clone, Copy)]
+#[derive(Clone, Copy, PartialEq, Eq, Debug, Default)]
 pub struct OneLine {
     pub field: u8,
     pub amount: i32,
@@ -18,6 +18,7 @@ pub struct OneLine {
 impl Host for OneLine {
     ghost means = { meaning };
 
+    // Stays beside the one for flags: the trait asks for both, and they answer with values of two types.
     fn amount(&self, field: u8) -> Result<i32, Stop> {
         if field == self.field {
             return Ok(self.amount);
@@ -33,15 +34,10 @@ impl Host for OneLine {
     }
 
     fn post(&mut self, account: u8, value: i32) -> Result<(), Stop> {
-        if account != self.account {
+        if account != self.account || self.posted.is_some() {
             return Err(Stop::PostingRefused);
         }
-        match self.posted {
-            Some(_) => Err(Stop::PostingRefused),
-            None => {
-                self.posted = Some(value);
-                Ok(())
-            }
-        }
+        self.posted = Some(value);
+        Ok(())
     }
 }

@@ -1,6 +1,8 @@
-// What the two hosts answer at their bounds, run.
+// What the two hosts, and the lists that they keep, answer at their bounds, run.
 #![tactic(auto)]
 
+#[cfg(test)]
+mod lists;
 #[cfg(test)]
 mod records;
 #[cfg(test)]

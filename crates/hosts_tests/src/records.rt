@@ -3,22 +3,20 @@ use host::Host;
 use language::faults::Stop;
 use record_host::check::check as checked;
 use record_host::record::RecordHost;
+use std::array;
 use std::test::Fail;
 
 // The host of a record, or the number that its checking is refused by.
 fn made(words: &[u32], accounts: u32, lines: u32) -> Result<RecordHost, u8> {
-    match checked(words, accounts, lines) {
-        Ok(record) => Ok(RecordHost::new(record)),
-        Err(fault) => Err(fault.cause.number()),
-    }
+    checked(words, accounts, lines)
+        .map(RecordHost::new)
+        .map_err(|fault| fault.cause.number())
 }
 
+// Stays in numbers: the expected values were written down in them, and tests keep their values.
 // The number that words are refused by, or 0.
 fn refusal(words: &[u32], accounts: u32, lines: u32) -> u8 {
-    match made(words, accounts, lines) {
-        Ok(_) => 0,
-        Err(number) => number,
-    }
+    made(words, accounts, lines).err().unwrap_or(0)
 }
 
 // Two amounts and two flags, one field with both.
@@ -119,18 +117,19 @@ fn example(rt: HostRuntime) -> Result<(), Fail> {
     Ok(())
 }
 
-// Every field with an amount and a flag, the longest record there is.
+// The word at a place of the longest record there is, in which every field has an amount and a flag.
+fn word(place: usize) -> u32 {
+    match place {
+        0 | 1 => 256,
+        2..514 => (place as u32 - 2) % 256,
+        514..770 => 2_147_483_648 + (place as u32 - 514),
+        _ => (place % 2) as u32,
+    }
+}
+
 #[test]
 fn longest(rt: HostRuntime) -> Result<(), Fail> {
-    let mut words = [0u32; 1026];
-    words[0] = 256;
-    words[1] = 256;
-    for i in 0..256 {
-        words[2 + i] = i as u32;
-        words[258 + i] = i as u32;
-        words[514 + i] = 2_147_483_648 + i as u32;
-        words[770 + i] = i as u32 % 2;
-    }
+    let words: [u32; 1026] = array::from_fn(word);
     let host = made(&words, 0, 0)?;
     assert_eq!(rt; host.amount(0), Ok(-2_147_483_648));
     assert_eq!(rt; host.amount(255), Ok(-2_147_483_393));

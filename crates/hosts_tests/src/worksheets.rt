@@ -2,30 +2,24 @@
 use host::Host;
 use language::faults::{Fault, Stop};
 use std::test::Fail;
+use worksheet::charges::Charge;
 use worksheet::sheet::Worksheet;
 
+// Stays in numbers: the expected values were written down in them, and tests keep their values.
 // The number that a call is refused by, or 0.
 fn refusal(answer: Result<(), Fault>) -> u8 {
-    match answer {
-        Ok(()) => 0,
-        Err(fault) => fault.cause.number(),
-    }
+    answer.err().map_or(0, |fault| fault.cause.number())
 }
 
 // A worksheet, or the number that its making is refused by.
 fn made(accounts: u32, lines: u32) -> Result<Worksheet, u8> {
-    match Worksheet::new(accounts, lines) {
-        Ok(sheet) => Ok(sheet),
-        Err(fault) => Err(fault.cause.number()),
-    }
+    Worksheet::new(accounts, lines).map_err(|fault| fault.cause.number())
 }
 
+// Stays in numbers: the expected values were written down in them, and tests keep their values.
 // The number that making is refused by, or 0.
 fn unmade(accounts: u32, lines: u32) -> u8 {
-    match made(accounts, lines) {
-        Ok(_) => 0,
-        Err(number) => number,
-    }
+    made(accounts, lines).err().unwrap_or(0)
 }
 
 #[test]
@@ -111,11 +105,16 @@ fn charges(rt: HostRuntime) -> Result<(), Fail> {
     let mut sheet = made(9, 3)?;
     sheet.post(8, 5)?;
     sheet.post(0, -6)?;
-    let charges = sheet.charges();
-    assert!(rt; charges.len() == 2);
-    assert_eq!(rt; charges[0].account, 8);
-    assert_eq!(rt; charges[0].value, 5);
-    assert_eq!(rt; charges[1].account, 0);
-    assert_eq!(rt; charges[1].value, -6);
+    let charges = [
+        Charge {
+            account: 8,
+            value: 5,
+        },
+        Charge {
+            account: 0,
+            value: -6,
+        },
+    ];
+    assert_eq!(rt; sheet.charges(), charges.as_slice());
     Ok(())
 }

@@ -1,2 +1,3 @@
 pub mod Lookup
+pub mod Portions
 pub mod Posting

@@ -1,7 +1,10 @@
 -- Looking a field up in a group whose numbers rise gives what the group says of it.
-use Rattle.std.proofs.Common.{◌≡◌, ℕ, zero, suc, ◌+◌, ◌<◌, eqb, ◌⊎◌, List, get_or, Some, None, Option, sym, refl, ap, ◌∙◌, inl, inr, add-one, arith}
+use Rattle.std.proofs.Common.{◌≡◌, ℕ, zero, suc, ◌+◌, ◌<◌, ◌≤◌, eqb, ◌⊎◌, List, length, get_or, Some, None, Option, sym, refl, ap, ◌∙◌, inl, inr, add-one, arith}
 use Rattle.std.proofs.lemmas.Bool.{cases_eq, cond-true, cond-false, eq-eqb, ne_eqb}
+use Rattle.std.specs.Option.{option_map}
 use Rattle.record_host.specs.Lawful.{Rising}
+use Rattle.record_host.specs.Parts.{Given, part}
+use Rattle.record_host.proofs.Portions.{length_part, part_at}
 use Rattle.record_host.specs.Says.{Group, Names, Says}
 use Rattle.record_host.specs.Means.{placed, valued, looked_up}
 
@@ -67,6 +70,21 @@ module _ {V : Type 0} (words : List ℕ) (group : Group) (reads : ℕ → V) (ri
 
   missed : ((j : ℕ) → Names words group field j → ⊥) → looked_up words group reads field ≡ None
   missed none = ap (valued words group.at reads) (placed-none words group.from group.count field (λ j inside is. none j (inside, is)))
+
+  -- what the fields and values of the group, as slices, say of the field
+  pub given : (fields values : List ℕ) → fields ≡ part words group.from group.count → values ≡ part words group.at group.count
+      → group.from + group.count ≤ length words → (found : Option ℕ) → Given fields values field found
+      → option_map reads found ≡ looked_up words group reads field
+  given fields values p q fits None none =
+      let long : length fields ≡ group.count = ap length p ∙ length_part words group.from group.count fits in
+      sym (missed (λ j names. none j (omega (arith, names.0)) (ap (λ l. get_or l j 0) p ∙ part_at words group.from group.count j names.0 ∙ names.1)))
+  given fields values p q fits (Some value) there =
+      let long : length fields ≡ group.count = ap length p ∙ length_part words group.from group.count fits in
+      let j = there.0 in
+      let inside : j < group.count = omega (arith, there.1) in
+      let field_is : get_or words (group.from + j) 0 ≡ field = sym (part_at words group.from group.count j inside) ∙ sym (ap (λ l. get_or l j 0) p) ∙ there.2 in
+      let value_is : get_or words (group.at + j) 0 ≡ value = sym (part_at words group.at group.count j inside) ∙ sym (ap (λ l. get_or l j 0) q) ∙ there.3 in
+      ap (λ v. Some (reads v)) (sym value_is) ∙ sym (looked j (inside, field_is))
 
   pub said : Says words group reads field (looked_up words group reads field)
   said =

@@ -1,4 +1,5 @@
 pub mod Lawful
+pub mod Parts
 pub mod Checked
 pub mod Says
 pub mod Means

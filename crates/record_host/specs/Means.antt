@@ -1,6 +1,6 @@
 -- What the record host means. Assumes nothing.
-use Rattle.std.specs.Prelude.{ℕ, zero, suc, ◌+◌, Bool, cond, List, ℤ, pos, Some, None, Option, ◌==◌, nat_lt, slice_index, slice_index_or}
-use Rattle.host.specs.Meaning.{Meaning}
+use Rattle.std.specs.Prelude.{ℕ, zero, suc, ◌+◌, Bool, cond, List, ℤ, pos, Some, None, Option, ◌==◌, slice_index, slice_index_or}
+use Rattle.host.specs.Meaning.{Meaning, opened}
 use Rattle.record_host.specs.Says.{Group, amount_group, flag_group, signed, truth}
 use Rattle.record_host.specs.Checked.{record_of}
 use Rattle.record_host.specs.declared.record.RecordHost.{RecordHost}
@@ -27,9 +27,9 @@ amount_of words field = looked_up words (amount_group words) signed field
 abbrev pub flag_of : List ℕ → ℕ → Option Bool
 flag_of words field = looked_up words (flag_group words) truth field
 
--- the total of an account, if it is open
+-- the totals of the accounts that are open
 abbrev pub total_of : List ℤ → ℕ → ℕ → Option ℤ
-total_of sums accounts account = cond (nat_lt account accounts) (Some (slice_index_or sums account (pos 0))) None
+total_of sums accounts = opened accounts (λ account. slice_index_or sums account (pos 0))
 
 -- the meaning of the record host, by its parts
 abbrev pub meaning : RecordHost → Meaning

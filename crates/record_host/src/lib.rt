@@ -3,6 +3,7 @@
 
 pub mod check;
 pub mod checked;
+mod parts;
 mod read;
 pub mod record;
 pub mod serve;

@@ -1,5 +1,5 @@
 // What the record host does: its making, asking and posting.
-ghost use Rattle.std.specs.Prelude.{◌≡◌, ℕ, ◌-◌, ◌<◌, ◌≤◌, pos, ◌+ℤ◌, slice_index_or, slice_set};
+ghost use Rattle.std.specs.Prelude.{◌≡◌};
 ghost use Rattle.record_host.specs.Checked.{record_of};
 ghost use Rattle.record_host.specs.Says.{Made, Opened};
 ghost use Rattle.record_host.specs.Means.{meaning};
@@ -10,34 +10,6 @@ use crate::record::RecordHost;
 use crate::totals::Totals;
 use host::Host;
 use language::faults::Stop;
-
-impl Totals {
-    // All at zero, and no line taken.
-    fn none(lines: u32) -> Totals
-        requires { lines ≤ 65535 }
-        ensures sums { (a : ℕ) → slice_index_or result.sums a (pos 0) ≡ pos 0 }
-        ensures left { result.left ≡ lines }
-    {
-        Totals {
-            sums: [0; 256],
-            most: lines,
-            left: lines,
-        }
-    }
-
-    // The totals after a charge: a copy, changed and given back whole.
-    fn charged(self, account: u8, value: i32) -> Totals
-        requires { 0 < self.left }
-        ensures sums { result.sums ≡ slice_set self.sums account (slice_index_or self.sums account (pos 0) +ℤ value) }
-        ensures most { result.most ≡ self.most }
-        ensures left { result.left ≡ self.left - 1 }
-    {
-        let mut totals = self;
-        totals.sums[account as usize] += value as i64;
-        totals.left -= 1;
-        totals
-    }
-}
 
 impl RecordHost {
     // Makes the host of a checked record: its accounts open at 0, all its lines left.
@@ -54,10 +26,10 @@ impl RecordHost {
     pub fn total(&self, account: u8) -> Option<i64>
         ensures { result ≡ (meaning self.now).account account }
     {
-        if account as u32 >= self.checked.accounts {
+        if u32::from(account) >= self.checked.accounts {
             return None;
         }
-        Some(self.totals.sums[account as usize])
+        Some(self.totals.sums[usize::from(account)])
     }
 
     // How many accounts are open, from 0 on.
@@ -80,26 +52,23 @@ impl Host for RecordHost {
 
     // The amount that the record has for a field, if it has one.
     fn amount(&self, field: u8) -> Result<i32, Stop> {
-        match amount_of(&self.checked.words[0..self.checked.size], field) {
-            Some(amount) => Ok(amount),
-            None => Err(Stop::NothingThere),
-        }
+        amount_of(self.checked.words.as_slice(), field).ok_or(Stop::NothingThere)
     }
 
     // The flag that the record has for a field, if it has one.
     fn flag(&self, field: u8) -> Result<bool, Stop> {
-        match flag_of(&self.checked.words[0..self.checked.size], field) {
-            Some(flag) => Ok(flag),
-            None => Err(Stop::NothingThere),
-        }
+        flag_of(self.checked.words.as_slice(), field).ok_or(Stop::NothingThere)
     }
 
     // Posts by adding to the account's total.
     fn post(&mut self, account: u8, value: i32) -> Result<(), Stop> {
-        if account as u32 >= self.checked.accounts || self.totals.left == 0 {
+        if u32::from(account) >= self.checked.accounts || self.totals.left == 0 {
             return Err(Stop::PostingRefused);
         }
-        self.totals = self.totals.charged(account, value);
+        // Stays a copy that is changed and written back whole: the rules of the engine name this form for the bound on totals.
+        let mut totals = self.totals;
+        totals.charge(account, value);
+        self.totals = totals;
         Ok(())
     }
 }

@@ -1,22 +1,42 @@
--- Setting a row changes what its own field and kind say, and no other.
-use Rattle.std.proofs.Common.{◌≡◌, ℕ, zero, suc, ◌+◌, ◌<◌, ◌≤◌, Bool, true, false, cond, eqb, List, [], ◌∷◌, ◌++◌, length, get_or, take, set, Some, None, sym, refl, ap, ◌∙◌, inl, inr, arith, length-take, get_or-set_other, get_or-take, get_or-set_same}
-use Rattle.std.proofs.lemmas.List.{take_more_set}
-use Rattle.std.proofs.lemmas.Bool.{cases_eq, cond-true, cond-false, eq-eqb, ne_eqb}
+-- Setting a row changes what is said under its own field and kind, and no other.
+use Rattle.std.proofs.Common.{◌≡◌, ℕ, zero, suc, ◌<◌, Bool, true, false, cond, eqb, List, [], ◌∷◌, ◌++◌, length, get_or, set, Some, None, sym, refl, ap, ◌∙◌, arith, ◌&&◌}
+use Rattle.std.proofs.lemmas.Bool.{and_parts, eqb-true}
+use Rattle.std.proofs.lemmas.List.{get_or_default}
+use Rattle.std.proofs.lemmas.List.Quantifiers.{all_pairs_push}
+use Rattle.worksheet.specs.declared.row.Kind.{Kind}
+use Rattle.worksheet.specs.declared.row.Kind.TheVariants as kinds
 use Rattle.worksheet.specs.declared.row.Row.{Row}
-use Rattle.worksheet.specs.Rows.{Apart, blank, entry_in, key_of}
+use Rattle.worksheet.specs.Rows.{Apart, blank, entry_in, kind_of, names, same_kind}
 
--- two tests for different numbers change places
-swap : {X : Type 0} (a b key : ℕ) (x y z : X) → (a ≡ b → ⊥)
-    → cond (eqb a key) x (cond (eqb b key) y z) ≡ cond (eqb b key) y (cond (eqb a key) x z)
-swap a b key x y z other =
-    elim (cases_eq a key) [
-      | inl same ↦
-          let no : eqb b key ≡ false = ne_eqb b key (λ e. other (same ∙ sym e)) in
-          ap (cond (eqb a key) x) (cond-false (eqb b key) y z no) ∙ sym (cond-false (eqb b key) y (cond (eqb a key) x z) no)
-      | inr not ↦
-          let no : eqb a key ≡ false = ne_eqb a key not in
-          cond-false (eqb a key) x (cond (eqb b key) y z) no ∙ ap (cond (eqb b key) y) (sym (cond-false (eqb a key) x z no))
-    ]
+one_kind : (a b : Kind) → same_kind a b ≡ true → a ≡ b
+one_kind kinds.Amount kinds.Amount e = refl
+one_kind kinds.Amount kinds.Flag e = absurd cc
+one_kind kinds.Flag kinds.Amount e = absurd cc
+one_kind kinds.Flag kinds.Flag e = refl
+
+-- what a row names
+named : (field : ℕ) (kind : Kind) (row : Row) → names field kind row ≡ true → (row.field ≡ field) × (kind_of row.entry ≡ kind)
+named field kind row is =
+    let parts = and_parts (eqb row.field field) (same_kind (kind_of row.entry) kind) is in
+    (eqb-true row.field field parts.0, one_kind (kind_of row.entry) kind parts.1)
+
+-- a row that names what another does is named as it is
+pub alike : (field : ℕ) (kind : Kind) (one row : Row) → names row.field (kind_of row.entry) one ≡ true → names field kind one ≡ names field kind row
+alike field kind one row is =
+    let same = named row.field (kind_of row.entry) one is in
+    ap (λ f. eqb f field && same_kind (kind_of one.entry) kind) same.0 ∙ ap (λ k. eqb row.field field && same_kind k kind) same.1
+
+-- a row that names other than another does is not named with it
+pub unlike : (field : ℕ) (kind : Kind) (one row : Row) → names row.field (kind_of row.entry) one ≡ false → names field kind row ≡ true → names field kind one ≡ false
+unlike field kind one row other is =
+    let same = named field kind row is in
+    sym (ap (λ f. names f kind one) same.0) ∙ sym (ap (λ k. names row.field k one) same.1) ∙ other
+
+-- two tests of which one holds at most change places
+swap : {X : Type 0} (p q : Bool) (x y z : X) → (q ≡ true → p ≡ false) → cond p x (cond q y z) ≡ cond q y (cond p x z)
+swap true true x y z other = absurd (let no : true ≡ false = other refl in cc)
+swap true false x y z other = refl
+swap false q x y z other = refl
 
 -- a test that is asked twice
 twice : {X : Type 0} (b : Bool) (x y z : X) → cond b x z ≡ cond b x (cond b y z)
@@ -24,60 +44,48 @@ twice true x y z = refl
 twice false x y z = refl
 
 -- nothing is said where no row names the field and kind
-pub entry-none : (rows : List Row) (n key : ℕ)
-    → n ≤ length rows → ((k : ℕ) → k < n → key_of (get_or rows k blank) ≡ key → ⊥) → entry_in key (take n rows) ≡ None
-entry-none rows zero key fits none = refl
-entry-none [] (suc n) key fits none = refl
-entry-none (row ∷ rows) (suc n) key fits none =
-    cond-false (eqb (key_of row) key) (Some row.entry) (entry_in key (take n rows)) (ne_eqb (key_of row) key (none 0 (omega arith)))
-    ∙ entry-none rows n key (omega arith) (λ k inside. none (suc k) (omega arith))
+pub entry-none : (rows : List Row) (field : ℕ) (kind : Kind)
+    → ((k : ℕ) → k < length rows → names field kind (get_or rows k blank) ≡ false) → entry_in field kind rows ≡ None
+entry-none [] field kind none = refl
+entry-none (row ∷ rows) field kind none =
+    ap (λ b. cond b (Some row.entry) (entry_in field kind rows)) (none 0 (omega arith))
+    ∙ entry-none rows field kind (λ k inside. none (suc k) (omega arith))
 
--- a row says what its field and kind say, where no other names them
-pub entry_at : (rows : List Row) (n key i : ℕ)
-    → i < n → n ≤ length rows → key_of (get_or rows i blank) ≡ key → Apart rows n → entry_in key (take n rows) ≡ Some (get_or rows i blank).entry
-entry_at rows zero key i inside fits is apart = absurd (omega arith)
-entry_at [] (suc n) key i inside fits is apart = absurd (omega arith)
-entry_at (row ∷ rows) (suc n) key zero inside fits is apart =
-    cond-true (eqb (key_of row) key) (Some row.entry) (entry_in key (take n rows)) (eq-eqb (key_of row) key is)
-entry_at (row ∷ rows) (suc n) key (suc i) inside fits is apart =
-    cond-false (eqb (key_of row) key) (Some row.entry) (entry_in key (take n rows)) (ne_eqb (key_of row) key (λ e. apart 0 (suc i) (omega arith) inside (e ∙ sym is)))
-    ∙ entry_at rows n key i (omega arith) (omega arith) is (λ a b before below. apart (suc a) (suc b) (omega arith) (omega arith))
+-- the first row that names them says it
+pub entry_at : (rows : List Row) (field : ℕ) (kind : Kind) (i : ℕ)
+    → i < length rows → names field kind (get_or rows i blank) ≡ true → ((k : ℕ) → k < i → names field kind (get_or rows k blank) ≡ false)
+    → entry_in field kind rows ≡ Some (get_or rows i blank).entry
+entry_at [] field kind i inside is first = absurd (omega arith)
+entry_at (row ∷ rows) field kind zero inside is first = ap (λ b. cond b (Some row.entry) (entry_in field kind rows)) is
+entry_at (row ∷ rows) field kind (suc i) inside is first =
+    ap (λ b. cond b (Some row.entry) (entry_in field kind rows)) (first 0 (omega arith))
+    ∙ entry_at rows field kind i (omega arith) is (λ k below. first (suc k) (omega arith))
 
--- the row in place of one of the same field and kind
-pub entry-replaced : (rows : List Row) (n i : ℕ) (row : Row) (key : ℕ)
-    → i < n → n ≤ length rows → key_of (get_or rows i blank) ≡ key_of row → Apart rows n
-    → entry_in key (take n (set rows i row)) ≡ cond (eqb (key_of row) key) (Some row.entry) (entry_in key (take n rows))
-entry-replaced rows zero i row key inside fits is apart = absurd (omega arith)
-entry-replaced [] (suc n) i row key inside fits is apart = absurd (omega arith)
-entry-replaced (r ∷ rows) (suc n) zero row key inside fits is apart =
-    twice (eqb (key_of row) key) (Some row.entry) (Some r.entry) (entry_in key (take n rows))
-    ∙ ap (λ k. cond (eqb (key_of row) key) (Some row.entry) (cond (eqb k key) (Some r.entry) (entry_in key (take n rows)))) (sym is)
-entry-replaced (r ∷ rows) (suc n) (suc i) row key inside fits is apart =
-    ap (cond (eqb (key_of r) key) (Some r.entry)) (entry-replaced rows n i row key (omega arith) (omega arith) is (λ a b before below. apart (suc a) (suc b) (omega arith) (omega arith)))
-    ∙ swap (key_of r) (key_of row) key (Some r.entry) (Some row.entry) (entry_in key (take n rows)) (λ e. apart 0 (suc i) (omega arith) inside (e ∙ sym is))
+-- the row in place of the first of the same field and kind
+pub entry-replaced : (rows : List Row) (i : ℕ) (row : Row) (field : ℕ) (kind : Kind)
+    → i < length rows → names row.field (kind_of row.entry) (get_or rows i blank) ≡ true
+    → ((k : ℕ) → k < i → names row.field (kind_of row.entry) (get_or rows k blank) ≡ false)
+    → entry_in field kind (set rows i row) ≡ cond (names field kind row) (Some row.entry) (entry_in field kind rows)
+entry-replaced [] i row field kind inside is first = absurd (omega arith)
+entry-replaced (r ∷ rows) zero row field kind inside is first =
+    twice (names field kind row) (Some row.entry) (Some r.entry) (entry_in field kind rows)
+    ∙ ap (λ b. cond (names field kind row) (Some row.entry) (cond b (Some r.entry) (entry_in field kind rows))) (sym (alike field kind r row is))
+entry-replaced (r ∷ rows) (suc i) row field kind inside is first =
+    ap (cond (names field kind r) (Some r.entry)) (entry-replaced rows i row field kind (omega arith) is (λ k below. first (suc k) (omega arith)))
+    ∙ swap (names field kind r) (names field kind row) (Some r.entry) (Some row.entry) (entry_in field kind rows) (unlike field kind r row (first 0 (omega arith)))
 
--- a row after others none of which is of its field and kind
-entry-after : (rows : List Row) (row : Row) (key : ℕ)
-    → ((k : ℕ) → k < length rows → key_of (get_or rows k blank) ≡ key_of row → ⊥)
-    → entry_in key (rows ++ (row ∷ [])) ≡ cond (eqb (key_of row) key) (Some row.entry) (entry_in key rows)
-entry-after [] row key none = refl
-entry-after (r ∷ rows) row key none =
-    ap (cond (eqb (key_of r) key) (Some r.entry)) (entry-after rows row key (λ k inside. none (suc k) (omega arith)))
-    ∙ swap (key_of r) (key_of row) key (Some r.entry) (Some row.entry) (entry_in key rows) (none 0 (omega arith))
+-- the row after all others, where none is of its field and kind
+pub entry-added : (rows : List Row) (row : Row) (field : ℕ) (kind : Kind)
+    → ((k : ℕ) → k < length rows → names row.field (kind_of row.entry) (get_or rows k blank) ≡ false)
+    → entry_in field kind (rows ++ (row ∷ [])) ≡ cond (names field kind row) (Some row.entry) (entry_in field kind rows)
+entry-added [] row field kind none = refl
+entry-added (r ∷ rows) row field kind none =
+    ap (cond (names field kind r) (Some r.entry)) (entry-added rows row field kind (λ k inside. none (suc k) (omega arith)))
+    ∙ swap (names field kind r) (names field kind row) (Some r.entry) (Some row.entry) (entry_in field kind rows) (unlike field kind r row (none 0 (omega arith)))
 
-pub entry-added : (rows : List Row) (n : ℕ) (row : Row) (key : ℕ)
-    → n < length rows → ((k : ℕ) → k < n → key_of (get_or rows k blank) ≡ key_of row → ⊥)
-    → entry_in key (take (n + 1) (set rows n row)) ≡ cond (eqb (key_of row) key) (Some row.entry) (entry_in key (take n rows))
-entry-added rows n row key room none =
-    ap (entry_in key) (take_more_set rows n row room)
-    ∙ entry-after (take n rows) row key (λ k inside is. let below : k < n = omega (arith, length-take n rows) in none k below (ap key_of (sym (get_or-take n rows k blank below)) ∙ is))
-
--- rows stay apart when a new one of another field and kind comes after them
-pub apart-added : (rows : List Row) (n : ℕ) (row : Row)
-    → n < length rows → ((k : ℕ) → k < n → key_of (get_or rows k blank) ≡ key_of row → ⊥) → Apart rows n → Apart (set rows n row) (n + 1)
-apart-added rows n row room none apart a b before below e =
-    let left : key_of (get_or (set rows n row) a blank) ≡ key_of (get_or rows a blank) = ap key_of (get_or-set_other rows n a row blank (λ q. omega arith)) in
-    elim (cases_eq b n) [
-      | inl same ↦ none a (omega arith) (sym left ∙ e ∙ rw same (ap key_of (get_or-set_same rows n row blank room)))
-      | inr other ↦ apart a b before (omega arith) (sym left ∙ e ∙ ap key_of (get_or-set_other rows n b row blank other))
-    ]
+-- rows stay apart when one of another field and kind comes after them
+pub apart-added : (rows : List Row) (row : Row) → Apart rows
+    → ((k : ℕ) → k < length rows → names row.field (kind_of row.entry) (get_or rows k blank) ≡ false) → Apart (rows ++ (row ∷ []))
+apart-added rows row apart none =
+    all_pairs_push (λ one other. names other.field (kind_of other.entry) one ≡ false) rows row apart
+    (λ k d inside. ap (names row.field (kind_of row.entry)) (get_or_default rows k d blank inside) ∙ none k inside)

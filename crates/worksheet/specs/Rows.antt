@@ -1,38 +1,40 @@
 -- Rows by field and kind. Assumes nothing.
-use Rattle.std.specs.Prelude.{ℕ, ◌+◌, ◌*◌, ◌<◌, Bool, cond, List, [], ◌∷◌, ℤ, pos, Some, None, Option, ◌==◌, ◌≢◌, slice_index_or}
+use Rattle.std.specs.Prelude.{◌≡◌, ℕ, Bool, true, false, cond, List, [], ◌∷◌, ℤ, pos, Some, None, Option, ◌==◌, ◌&&◌}
+use Rattle.std.specs.List.{AllPairs}
 use Rattle.worksheet.specs.declared.row.Entry.{Entry}
 use Rattle.worksheet.specs.declared.row.Entry.TheVariants.{Amount, Flag}
+use Rattle.worksheet.specs.declared.row.Kind.{Kind}
+use Rattle.worksheet.specs.declared.row.Kind.TheVariants as kinds
 use Rattle.worksheet.specs.declared.row.Row.{Row}
 
--- the amount of a field as one number
-abbrev pub amount_key : ℕ → ℕ
-amount_key field = 2 * field
+-- whether an entry is an amount or a flag
+abbrev pub kind_of : Entry → Kind
+kind_of (Amount z) = kinds.Amount
+kind_of (Flag b) = kinds.Flag
 
--- the flag of a field as one number, which is no amount's
-abbrev pub flag_key : ℕ → ℕ
-flag_key field = 2 * field + 1
+-- whether two kinds are one
+abbrev pub same_kind : Kind → Kind → Bool
+same_kind kinds.Amount kinds.Amount = true
+same_kind kinds.Amount kinds.Flag = false
+same_kind kinds.Flag kinds.Amount = false
+same_kind kinds.Flag kinds.Flag = true
 
--- field and kind as one number
-abbrev pub keyed : ℕ → Entry → ℕ
-keyed field (Amount z) = amount_key field
-keyed field (Flag b) = flag_key field
-
--- the field and kind that a row names
-abbrev pub key_of : Row → ℕ
-key_of row = keyed row.field row.entry
+-- whether a row says something of this kind of this field
+abbrev pub names : ℕ → Kind → Row → Bool
+names field kind row = (row.field == field) && same_kind (kind_of row.entry) kind
 
 -- what a place holds that was never filled
 abbrev pub blank : Row
 blank = record { field = 0; entry = Amount (pos 0) }
 
--- no two of so many rows name the same field and kind
-abbrev pub Apart : List Row → ℕ → Type 0
-Apart rows filled = (i j : ℕ) → i < j → j < filled → key_of (slice_index_or rows i blank) ≢ key_of (slice_index_or rows j blank)
+-- no two rows name the same field and kind
+abbrev pub Apart : List Row → Type 0
+Apart rows = AllPairs (λ one other. names other.field (kind_of other.entry) one ≡ false) rows
 
--- what the rows say under a field and kind
-abbrev pub entry_in : ℕ → List Row → Option Entry
-entry_in key [] = None
-entry_in key (row ∷ rows) = cond (key_of row == key) (Some row.entry) (entry_in key rows)
+-- what the rows say of this kind of a field
+abbrev pub entry_in : ℕ → Kind → List Row → Option Entry
+entry_in field kind [] = None
+entry_in field kind (row ∷ rows) = cond (names field kind row) (Some row.entry) (entry_in field kind rows)
 
 -- an entry as an amount
 abbrev pub amount_of : Option Entry → Option ℤ

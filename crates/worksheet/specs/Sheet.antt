@@ -1,33 +1,34 @@
 -- What a worksheet means, and what its calls do. Assumes nothing.
-use Rattle.std.specs.Prelude.{◌≡◌, ℕ, ◌+◌, ◌-◌, ◌<◌, ◌≤◌, Bool, cond, ◌⊎◌, List, [], ◌∷◌, ◌++◌, take, ℤ, pos, ◌+ℤ◌, Some, None, Ok, Err, fold, Option, Result, ◌==◌, nat_lt}
+use Rattle.std.specs.Prelude.{◌≡◌, ℕ, ◌+◌, ◌-◌, ◌<◌, ◌≤◌, Bool, cond, ◌⊎◌, List, [], ◌∷◌, ◌++◌, length, ℤ, pos, ◌+ℤ◌, Some, None, Ok, Err, fold, Option, Result, ◌==◌}
 use Rattle.language.specs.declared.faults.Fault.{Fault}
 use Rattle.language.specs.declared.faults.Stop.{Stop}
-use Rattle.language.specs.declared.faults.Cause.TheVariants.{Host}
 use Rattle.language.specs.declared.faults.HostRefusal as refusal
 use Rattle.language.specs.declared.faults.HostRefusal.{HostRefusal}
-use Rattle.host.specs.Meaning.{Meaning}
+use Rattle.bounded_list.specs.Items.{items}
+use Rattle.host.specs.Meaning.{Meaning, opened}
+use Rattle.host.specs.Refused.{refused}
 use Rattle.worksheet.specs.declared.charges.Charge.{Charge}
 use Rattle.worksheet.specs.declared.charges.Charges.{Charges}
+use Rattle.worksheet.specs.declared.row.Entry.{Entry}
+use Rattle.worksheet.specs.declared.row.Entry.TheVariants.{Amount, Flag}
+use Rattle.worksheet.specs.declared.row.Kind.{Kind}
+use Rattle.worksheet.specs.declared.row.Kind.TheVariants as kinds
 use Rattle.worksheet.specs.declared.row.Row.{Row}
 use Rattle.worksheet.specs.declared.rows.Rows.{Rows}
 use Rattle.worksheet.specs.declared.sheet.Worksheet.{Worksheet}
-use Rattle.worksheet.specs.Rows.{amount_key, flag_key, key_of, entry_in, amount_of, flag_of}
-
--- a host's refusal as a fault, at place 0
-abbrev pub refused : HostRefusal → Fault
-refused cause = record { cause = Host cause; place = 0 }
+use Rattle.worksheet.specs.Rows.{amount_of, entry_in, flag_of, kind_of, names}
 
 -- the rows that are filled
 abbrev pub filled_rows : Rows → List Row
-filled_rows rows = take rows.filled rows.places
+filled_rows rows = items rows.filled
 
 -- how many rows are filled
 abbrev pub filled_in : Worksheet → ℕ
-filled_in sheet = sheet.rows.filled
+filled_in sheet = length (filled_rows sheet.rows)
 
 -- the charge lines that are taken, in order
 abbrev pub taken_lines : Charges → List Charge
-taken_lines charges = take charges.taken charges.lines
+taken_lines charges = items charges.taken
 
 -- the charge lines of a worksheet, in order
 abbrev pub charges_of : Worksheet → List Charge
@@ -41,17 +42,17 @@ share account charge = cond (charge.account == account) charge.value (pos 0)
 abbrev pub total_of : ℕ → List Charge → ℤ
 total_of account lines = fold (λ sum charge. sum +ℤ share account charge) (pos 0) lines
 
--- the total of an account, if it is open
+-- the totals of the accounts that are open
 abbrev pub open_total : ℕ → List Charge → ℕ → Option ℤ
-open_total accounts lines account = cond (nat_lt account accounts) (Some (total_of account lines)) None
+open_total accounts lines = opened accounts (λ account. total_of account lines)
 
 -- the meaning of a worksheet, by its parts
 abbrev pub meaning : Worksheet → Meaning
 meaning sheet = record {
-  amount = λ field. amount_of (entry_in (amount_key field) (filled_rows sheet.rows));
-  flag = λ field. flag_of (entry_in (flag_key field) (filled_rows sheet.rows));
+  amount = λ field. amount_of (entry_in field kinds.Amount (filled_rows sheet.rows));
+  flag = λ field. flag_of (entry_in field kinds.Flag (filled_rows sheet.rows));
   account = open_total sheet.accounts (charges_of sheet);
-  lines = sheet.charges.most - sheet.charges.taken;
+  lines = sheet.charges.most - length (charges_of sheet);
 }
 
 -- the rows filled after one was set: one more where there was none of its field and kind
@@ -60,12 +61,12 @@ grown None filled = filled + 1
 grown (Some a) filled = filled
 
 -- setting a row: it is what its field and kind says from then on, and all others say what they did; it is refused just when it would be new and 64 rows are filled
-abbrev pub Put : Rows → Row → Result Rows Fault → Type 0
-Put before row (Ok after) =
-    ((key : ℕ) → entry_in key (filled_rows after) ≡ cond (key_of row == key) (Some row.entry) (entry_in key (filled_rows before)))
-    × (after.filled ≡ grown (entry_in (key_of row) (filled_rows before)) before.filled)
-Put before row (Err fault) =
-    (fault ≡ refused refusal.TheVariants.Row) × (before.filled ≡ 64) × (entry_in (key_of row) (filled_rows before) ≡ None)
+abbrev pub Put : Rows → Row → Result (Unit {0}) HostRefusal → Rows → Type 0
+Put before row (Ok u) after =
+    ((field : ℕ) (kind : Kind) → entry_in field kind (filled_rows after) ≡ cond (names field kind row) (Some row.entry) (entry_in field kind (filled_rows before)))
+    × (length (filled_rows after) ≡ grown (entry_in row.field (kind_of row.entry) (filled_rows before)) (length (filled_rows before)))
+Put before row (Err why) after =
+    (why ≡ refusal.TheVariants.Row) × (after ≡ before) × (length (filled_rows before) ≡ 64) × (entry_in row.field (kind_of row.entry) (filled_rows before) ≡ None)
 
 -- a meaning with this amount for this field, and all else as it was
 abbrev pub with_amount : Meaning → ℕ → ℤ → Meaning
@@ -84,6 +85,11 @@ with_flag m field value = record {
   account = m.account;
   lines = m.lines;
 }
+
+-- a meaning with this entry for this field, and all else as it was
+abbrev pub with_entry : Meaning → ℕ → Entry → Meaning
+with_entry m field (Amount value) = with_amount m field value
+with_entry m field (Flag value) = with_flag m field value
 
 -- Setting a row of a field that had this or nothing: the worksheet then has the changed meaning, one row more is filled if there was none, and the charge lines are as they were. It is refused just for a field above 255, or for a new row when 64 are filled, and then changes nothing
 abbrev pub RowSet : {V : Type 0} → Option V → Meaning → ℕ → Worksheet → Result (Unit {0}) Fault → Worksheet → Type 0
