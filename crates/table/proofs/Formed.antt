@@ -2,11 +2,9 @@
 use Rattle.std.proofs.Common.{◌≡◌, ℕ, zero, suc, ◌+◌, ◌*◌, ◌<◌, ◌≤◌, true, false, cond, not, ◌&&◌, eqb, List, length, Some, None, sym, refl, ap, ◌∙◌, subst, inl, inr, arith}
 use Rattle.std.proofs.lemmas.Bool.{cases_lt, cases_eq, ne_eqb}
 use Rattle.table.specs.declared.kinds.Kind.{Kind}
-use Rattle.table.specs.declared.kinds.Kind.TheVariants as kinds
 use Rattle.table.specs.declared.kinds.Class.{Class}
 use Rattle.table.specs.declared.kinds.Class.TheVariants as classes
 use Rattle.table.specs.declared.kinds.Form.{Form}
-use Rattle.table.specs.declared.kinds.Form.TheVariants as forms
 use Rattle.table.specs.declared.nodes.Node.{Node}
 use Rattle.table.specs.Kinds.{kind_number, kind_at, class_of, class_or, limits_of, within}
 use Rattle.table.specs.Forms.{after, complete, form_of}
@@ -17,7 +15,7 @@ use Rattle.table.specs.Layout.Branch.{branch}
 use Rattle.table.specs.Layout.Branches.{nil, cons}
 use Rattle.table.specs.Lays.{Lays, LaysAll}
 use Rattle.table.proofs.Chains.{class_at, unchain}
-use Rattle.table.proofs.Numbered.{kind-back, kind-number, none-some}
+use Rattle.table.proofs.Numbered.{kind-back, kind-number}
 use Rattle.table.proofs.Placed.{lays-rises, lays-rises-all}
 
 -- the class of a branch
@@ -99,45 +97,12 @@ lays-listed (branch k s v p bs) table i l m f h st =
       children = lays-children bs table (form_of k) (i + 1) (end_at table i) l.5 f.0;
     }
 
--- a program may come nowhere
+-- a program may come nowhere, so no child is of kind 1
 never_other : (f : Form) → after f classes.Other ≡ None
-never_other forms.Nothing = refl
-never_other forms.OneExpression = refl
-never_other forms.TwoExpressions = refl
-never_other forms.Expressions = refl
-never_other forms.Whole = refl
-never_other forms.Declarations = refl
-never_other forms.Statements = refl
-never_other forms.Parameters = refl
-never_other forms.Condition = refl
-never_other forms.FirstBlock = refl
-never_other forms.SecondBlock = refl
-never_other forms.SomeStatements = refl
-never_other forms.OnlyStatements = refl
-never_other forms.Choice = refl
-never_other forms.TwoValueBlocks = refl
-never_other forms.OneValueBlock = refl
-never_other forms.Value = refl
+never_other f = grind arith
 
--- so no child is of kind 1
 no_program : (f g : Form) (k : Kind) → after f (class_of k) ≡ Some g → eqb (kind_number k) 1 ≡ false
-no_program f g kinds.Program e = absurd (none-some (never_other f) e)
-no_program f g kinds.Variable e = refl
-no_program f g kinds.Function e = refl
-no_program f g kinds.Parameter e = refl
-no_program f g kinds.Body e = refl
-no_program f g kinds.Assignment e = refl
-no_program f g kinds.CallStatement e = refl
-no_program f g kinds.IfStatement e = refl
-no_program f g kinds.Block e = refl
-no_program f g kinds.Integer e = refl
-no_program f g kinds.Truth e = refl
-no_program f g kinds.Read e = refl
-no_program f g kinds.Not e = refl
-no_program f g kinds.Operator e = refl
-no_program f g kinds.IfExpression e = refl
-no_program f g kinds.ValueBlock e = refl
-no_program f g kinds.Call e = refl
+no_program f g k e = grind (arith, never_other)
 
 stands-below : (table : List Node) (i : ℕ) → 0 < i → eqb (node_at table i).kind 1 ≡ false → standing (length table) i (node_at table i) ≡ true
 stands-below table i h e =

@@ -1,11 +1,12 @@
 -- A branch whose records keep to their limits and whose children are those of their forms is that of a tree. Assumes nothing.
-use Rattle.std.proofs.Common.{◌≡◌, ℕ, zero, suc, ◌≤◌, Bool, true, false, cond, ◌&&◌, eqb, leb, ◌⊎◌, List, [], ◌∷◌, Some, None, Option, sym, refl, ap, ◌∙◌, subst, inl, inr, arith}
-use Rattle.std.proofs.lemmas.Bool.{and_parts, leb-true, eqb-true, both_ways}
+use Rattle.std.proofs.Common.{◌≡◌, ℕ, ◌≤◌, Bool, true, false, cond, eqb, ◌⊎◌, List, [], ◌∷◌, Some, None, Option, sym, refl, ap, ◌∙◌, subst, inl, inr, arith}
+use Rattle.std.proofs.lemmas.Bool.{eqb-true, both_ways}
 use Rattle.language.specs.declared.values.ValueType.{ValueType}
 use Rattle.language.specs.declared.values.ValueType.TheVariants as types
 use Rattle.language.specs.declared.values.Operator.{Operator}
 use Rattle.language.specs.declared.values.Operator.TheVariants as operators
-use Rattle.language.specs.Numbers.{type_number, operator_number}
+use Rattle.std.specs.Option.{unwrap_or}
+use Rattle.language.specs.Numbers.{type_number, type_at, operator_number, operator_at}
 use Rattle.table.specs.declared.kinds.Kind.{Kind}
 use Rattle.table.specs.declared.kinds.Kind.TheVariants as kinds
 use Rattle.table.specs.declared.kinds.Class.{Class}
@@ -30,7 +31,8 @@ use Rattle.table.specs.Tree.Program.{single, whole}
 use Rattle.table.specs.Layout.{Branch, Branches, Limited, LimitedAll, truth_number, of_expression, of_arguments, of_statement, of_statements, of_block, of_value_block, of_final, of_parameter, of_parameters, of_declaration, of_declarations, of_body, of_program}
 use Rattle.table.specs.Layout.Branch.{branch}
 use Rattle.table.specs.Layout.Branches.{nil, cons}
-use Rattle.table.proofs.Numbered.{some_same, none-some}
+use Rattle.std.proofs.lemmas.Option.{none-some, same_Some}
+use Rattle.table.proofs.Numbered.{class-same}
 use Rattle.table.proofs.Formed.{class_of_branch, Fit, Formed, FormedAll}
 
 -- the branch is that of a tree of its class
@@ -48,29 +50,21 @@ abbrev pub IsAll : Branches → Type 0
 IsAll nil = Unit {0}
 IsAll (cons b bs) = Is (class_of_branch b) b × IsAll bs
 
--- classes are told apart by their numbers
-class_back : ℕ → Class
-class_back n =
-    cond (eqb n 1) classes.Declaration (cond (eqb n 2) classes.Parameter (cond (eqb n 3) classes.Body (cond (eqb n 4) classes.Statement (cond (eqb n 5) classes.Block (cond (eqb n 6) classes.Expression (cond (eqb n 7) classes.ValueBlock classes.Other))))))
-
-class-at : (c : Class) → class_back (class_number c) ≡ c
-unfolding class_back
-class-at classes.Declaration = refl
-class-at classes.Parameter = refl
-class-at classes.Body = refl
-class-at classes.Statement = refl
-class-at classes.Block = refl
-class-at classes.Expression = refl
-class-at classes.ValueBlock = refl
-class-at classes.Other = refl
-
 -- one test of a class: it passes, or the others answer
 on-cases : (c w : Class) (f g : Form) (o : Option Form) → on c w f o ≡ Some g → ((c ≡ w) × (f ≡ g)) ⊎ (o ≡ Some g)
 on-cases c w f g o e = by (eqb (class_number c) (class_number w)) refl e
   where
     by : (b : Bool) → eqb (class_number c) (class_number w) ≡ b → cond b (Some f) o ≡ Some g → ((c ≡ w) × (f ≡ g)) ⊎ (o ≡ Some g)
-    by true t q = inl (sym (class-at c) ∙ ap class_back (eqb-true (class_number c) (class_number w) t) ∙ class-at w, some_same {o = Some f} refl q)
+    by true t q = inl (class-same c w (eqb-true (class_number c) (class_number w) t), same_Some _ _ q)
     by false t q = inr q
+
+-- so does a branch at the front: it is of the wanted class and the others are of its form, or the other answer counts
+on-front : (w : Class) (f : Form) (o : Option Form) (b : Branch) (bs : Branches) → (fit : (g : Form) × (on (class_of_branch b) w f o ≡ Some g) × Fit g bs) → Is (class_of_branch b) b → (Is w b × Fit f bs) ⊎ (o ≡ Some fit.0)
+on-front w f o b bs fit is =
+    elim (on-cases (class_of_branch b) w f fit.0 o fit.1) [
+      | inl p ↦ inl (subst (λ c. Is c b) p.0 is, subst (λ k. Fit k bs) (sym p.1) fit.2)
+      | inr q ↦ inr q
+    ]
 
 -- a child that must come, taken off the front
 record Taken (w : Class) (g : Form) (bs : Branches) : Type 0 where
@@ -81,17 +75,13 @@ record Taken (w : Class) (g : Form) (bs : Branches) : Type 0 where
   fit : Fit g others
   trees : IsAll others
 
-take : (w : Class) (g h : Form) (b : Branch) (bs : Branches) → class_of_branch b ≡ w → g ≡ h → Is (class_of_branch b) b → Fit h bs → IsAll bs → Taken w g (cons b bs)
-take w g h b bs p q x fit xs =
-    record { first = b; others = bs; same = refl; tree = subst (λ c. Is c b) p x; fit = subst (λ k. Fit k bs) (sym q) fit; trees = xs }
-
 -- a form after which one class alone may come
 must : (f g : Form) (w : Class) → complete f ≡ false → ((c : Class) → after f c ≡ on c w g None) → (bs : Branches) → Fit f bs → IsAll bs → Taken w g bs
 must f g w n a nil fit is = absurd (both_ways (complete f) n fit)
 must f g w n a (cons b bs) fit is =
-    elim (on-cases (class_of_branch b) w g fit.0 None (sym (a (class_of_branch b)) ∙ fit.1)) [
-      | inl p ↦ take w g fit.0 b bs p.0 p.1 is.0 fit.2 is.1
-      | inr q ↦ absurd (none-some refl q)
+    elim (on-front w g None b bs (fit.0, sym (a (class_of_branch b)) ∙ fit.1, fit.2) is.0) [
+      | inl p ↦ record { first = b; others = bs; same = refl; tree = p.0; fit = p.1; trees = is.1 }
+      | inr q ↦ absurd (none-some _ q)
     ]
 
 -- a front and the others put together again
@@ -101,7 +91,7 @@ joined p q r = (λ j. cons (p j) (q j)) ∙ r
 -- nothing comes
 none_left : (bs : Branches) → Fit forms.Nothing bs → nil ≡ bs
 none_left nil fit = refl
-none_left (cons b bs) fit = absurd (none-some refl fit.1)
+none_left (cons b bs) fit = absurd (none-some _ fit.1)
 
 one-expression : (bs : Branches) → Fit forms.OneExpression bs → IsAll bs → (e : Expression) × (cons (of_expression e) nil ≡ bs)
 one-expression bs fit is =
@@ -111,93 +101,66 @@ one-expression bs fit is =
 arguments : (bs : Branches) → Fit forms.Expressions bs → IsAll bs → (es : Arguments) × (of_arguments es ≡ bs)
 arguments nil fit is = (no_arguments, refl)
 arguments (cons b bs) fit is =
-    elim (on-cases (class_of_branch b) classes.Expression forms.Expressions fit.0 None fit.1) [
-      | inl p ↦
-          (let y : Is classes.Expression b = subst (λ c. Is c b) p.0 is.0 in
-          let r = arguments bs (subst (λ k. Fit k bs) (sym p.1) fit.2) is.1 in
-          (argument y.0 r.0, λ j. cons (y.1 j) (r.1 j)))
-      | inr q ↦ absurd (none-some refl q)
+    elim (on-front classes.Expression forms.Expressions None b bs fit is.0) [
+      | inl p ↦ (let r = arguments bs p.1 is.1 in (argument p.0.0 r.0, λ j. cons (p.0.1 j) (r.1 j)))
+      | inr q ↦ absurd (none-some _ q)
     ]
 
 only-statements : (bs : Branches) → Fit forms.OnlyStatements bs → IsAll bs → (ss : Statements) × (of_statements ss nil ≡ bs)
 only-statements nil fit is = (no_statements, refl)
 only-statements (cons b bs) fit is =
-    elim (on-cases (class_of_branch b) classes.Statement forms.OnlyStatements fit.0 None fit.1) [
-      | inl p ↦
-          (let y : Is classes.Statement b = subst (λ c. Is c b) p.0 is.0 in
-          let r = only-statements bs (subst (λ k. Fit k bs) (sym p.1) fit.2) is.1 in
-          (statement y.0 r.0, λ j. cons (y.1 j) (r.1 j)))
-      | inr q ↦ absurd (none-some refl q)
+    elim (on-front classes.Statement forms.OnlyStatements None b bs fit is.0) [
+      | inl p ↦ (let r = only-statements bs p.1 is.1 in (statement p.0.0 r.0, λ j. cons (p.0.1 j) (r.1 j)))
+      | inr q ↦ absurd (none-some _ q)
     ]
 
 -- the expression that ends a row
 last_one : (b : Branch) (bs : Branches) (g : Form) → on (class_of_branch b) classes.Expression forms.Nothing None ≡ Some g → Is (class_of_branch b) b → Fit g bs → (e : Expression) × (cons (of_expression e) nil ≡ cons b bs)
 last_one b bs g q x fit =
-    elim (on-cases (class_of_branch b) classes.Expression forms.Nothing g None q) [
-      | inl p ↦
-          (let y : Is classes.Expression b = subst (λ c. Is c b) p.0 x in
-          let n = none_left bs (subst (λ k. Fit k bs) (sym p.1) fit) in
-          (y.0, λ j. cons (y.1 j) (n j)))
-      | inr r ↦ absurd (none-some refl r)
+    elim (on-front classes.Expression forms.Nothing None b bs (g, q, fit) x) [
+      | inl p ↦ (p.0.0, λ j. cons (p.0.1 j) (none_left bs p.1 j))
+      | inr r ↦ absurd (none-some _ r)
     ]
 
 statements : (bs : Branches) → Fit forms.Statements bs → IsAll bs → (ss : Statements) × (f : Final) × (of_statements ss (of_final f) ≡ bs)
 statements nil fit is = (no_statements, no_final, refl)
 statements (cons b bs) fit is =
-    elim (on-cases (class_of_branch b) classes.Statement forms.Statements fit.0 _ fit.1) [
-      | inl p ↦
-          (let y : Is classes.Statement b = subst (λ c. Is c b) p.0 is.0 in
-          let r = statements bs (subst (λ k. Fit k bs) (sym p.1) fit.2) is.1 in
-          (statement y.0 r.0, r.1, λ j. cons (y.1 j) (r.2 j)))
+    elim (on-front classes.Statement forms.Statements _ b bs fit is.0) [
+      | inl p ↦ (let r = statements bs p.1 is.1 in (statement p.0.0 r.0, r.1, λ j. cons (p.0.1 j) (r.2 j)))
       | inr q ↦ (let l = last_one b bs fit.0 q is.0 fit.2 in (no_statements, final l.0, l.1))
     ]
 
 value : (bs : Branches) → Fit forms.Value bs → IsAll bs → (ss : Statements) × (e : Expression) × (of_statements ss (cons (of_expression e) nil) ≡ bs)
 value nil fit is = absurd (both_ways false refl fit)
 value (cons b bs) fit is =
-    elim (on-cases (class_of_branch b) classes.Statement forms.Value fit.0 _ fit.1) [
-      | inl p ↦
-          (let y : Is classes.Statement b = subst (λ c. Is c b) p.0 is.0 in
-          let r = value bs (subst (λ k. Fit k bs) (sym p.1) fit.2) is.1 in
-          (statement y.0 r.0, r.1, λ j. cons (y.1 j) (r.2 j)))
+    elim (on-front classes.Statement forms.Value _ b bs fit is.0) [
+      | inl p ↦ (let r = value bs p.1 is.1 in (statement p.0.0 r.0, r.1, λ j. cons (p.0.1 j) (r.2 j)))
       | inr q ↦ (let l = last_one b bs fit.0 q is.0 fit.2 in (no_statements, l.0, l.1))
     ]
 
 declarations : (bs : Branches) → Fit forms.Declarations bs → IsAll bs → (ds : Declarations) × (ss : Statements) × (f : Final) × (of_declarations ds (of_statements ss (of_final f)) ≡ bs)
 declarations nil fit is = (no_declarations, no_statements, no_final, refl)
 declarations (cons b bs) fit is =
-    elim (on-cases (class_of_branch b) classes.Declaration forms.Declarations fit.0 _ fit.1) [
-      | inl p ↦
-          (let y : Is classes.Declaration b = subst (λ c. Is c b) p.0 is.0 in
-          let r = declarations bs (subst (λ k. Fit k bs) (sym p.1) fit.2) is.1 in
-          (declaration y.0 r.0, r.1, r.2, λ j. cons (y.1 j) (r.3 j)))
+    elim (on-front classes.Declaration forms.Declarations _ b bs fit is.0) [
+      | inl p ↦ (let r = declarations bs p.1 is.1 in (declaration p.0.0 r.0, r.1, r.2, λ j. cons (p.0.1 j) (r.3 j)))
       | inr q ↦ (let r = statements (cons b bs) (fit.0, q, fit.2) is in (no_declarations, r.0, r.1, r.2))
     ]
 
 parameters : (bs : Branches) → Fit forms.Parameters bs → IsAll bs → (qs : List Parameter) × (d : Body) × (of_parameters qs (cons (of_body d) nil) ≡ bs)
 parameters nil fit is = absurd (both_ways false refl fit)
 parameters (cons b bs) fit is =
-    elim (on-cases (class_of_branch b) classes.Parameter forms.Parameters fit.0 _ fit.1) [
-      | inl p ↦
-          (let y : Is classes.Parameter b = subst (λ c. Is c b) p.0 is.0 in
-          let r = parameters bs (subst (λ k. Fit k bs) (sym p.1) fit.2) is.1 in
-          (y.0 ∷ r.0, r.1, λ j. cons (y.1 j) (r.2 j)))
+    elim (on-front classes.Parameter forms.Parameters _ b bs fit is.0) [
+      | inl p ↦ (let r = parameters bs p.1 is.1 in (p.0.0 ∷ r.0, r.1, λ j. cons (p.0.1 j) (r.2 j)))
       | inr q ↦
-          elim (on-cases (class_of_branch b) classes.Body forms.Nothing fit.0 None q) [
-            | inl p ↦
-                (let y : Is classes.Body b = subst (λ c. Is c b) p.0 is.0 in
-                let n = none_left bs (subst (λ k. Fit k bs) (sym p.1) fit.2) in
-                ([], y.0, λ j. cons (y.1 j) (n j)))
-            | inr r ↦ absurd (none-some refl r)
+          elim (on-front classes.Body forms.Nothing None b bs (fit.0, q, fit.2) is.0) [
+            | inl p ↦ ([], p.0.0, λ j. cons (p.0.1 j) (none_left bs p.1 j))
+            | inr r ↦ absurd (none-some _ r)
           ]
     ]
 
 -- sub and value keep to the limits
 pub kept : (l h m s v : ℕ) → within (limits l h m) s v ≡ true → (l ≤ s) × (s ≤ h) × (v ≤ m)
-kept l h m s v e =
-    let p = and_parts (leb l s) (leb s h && leb v m) e in
-    let q = and_parts (leb s h) (leb v m) p.1 in
-    (leb-true l s p.0, leb-true s h q.0, leb-true v m q.1)
+kept l h m s v e = grind arith
 
 -- where there is no use for one, it is 0
 no_sub : (m s v : ℕ) → within (limits 0 0 m) s v ≡ true → 0 ≡ s
@@ -207,30 +170,13 @@ no_value : (l h s v : ℕ) → within (limits l h 0) s v ≡ true → 0 ≡ v
 no_value l h s v e = omega (arith, kept l h 0 s v e)
 
 type-of : (s : ℕ) → s ≤ 2 → (t : ValueType) × (type_number t ≡ s)
-type-of zero h = (types.Void, refl)
-type-of (suc zero) h = (types.Int, refl)
-type-of (suc (suc zero)) h = (types.Bool, refl)
-type-of (suc (suc (suc n))) h = absurd (omega arith)
+type-of s h = (unwrap_or (type_at s) types.Bool, grind arith)
 
 truth-of : (v : ℕ) → v ≤ 1 → (b : Bool) × (truth_number b ≡ v)
-truth-of zero h = (false, refl)
-truth-of (suc zero) h = (true, refl)
-truth-of (suc (suc n)) h = absurd (omega arith)
+truth-of v h = (eqb v 1, grind arith)
 
 operator-of : (s : ℕ) → 1 ≤ s → s ≤ 11 → (o : Operator) × (operator_number o ≡ s)
-operator-of zero l h = absurd (omega arith)
-operator-of (suc zero) l h = (operators.Multiply, refl)
-operator-of (suc (suc zero)) l h = (operators.Divide, refl)
-operator-of (suc (suc (suc zero))) l h = (operators.Add, refl)
-operator-of (suc (suc (suc (suc zero)))) l h = (operators.Subtract, refl)
-operator-of (suc (suc (suc (suc (suc zero))))) l h = (operators.Less, refl)
-operator-of (suc (suc (suc (suc (suc (suc zero)))))) l h = (operators.LessOrEqual, refl)
-operator-of (suc (suc (suc (suc (suc (suc (suc zero))))))) l h = (operators.Greater, refl)
-operator-of (suc (suc (suc (suc (suc (suc (suc (suc zero)))))))) l h = (operators.GreaterOrEqual, refl)
-operator-of (suc (suc (suc (suc (suc (suc (suc (suc (suc zero))))))))) l h = (operators.Equal, refl)
-operator-of (suc (suc (suc (suc (suc (suc (suc (suc (suc (suc zero)))))))))) l h = (operators.And, refl)
-operator-of (suc (suc (suc (suc (suc (suc (suc (suc (suc (suc (suc zero))))))))))) l h = (operators.Or, refl)
-operator-of (suc (suc (suc (suc (suc (suc (suc (suc (suc (suc (suc (suc n)))))))))))) l h = absurd (omega arith)
+operator-of s l h = (unwrap_or (operator_at s) operators.Or, grind arith)
 
 -- two expressions
 two-expressions : (bs : Branches) → Fit forms.TwoExpressions bs → IsAll bs → (a b : Expression) × (cons (of_expression a) (cons (of_expression b) nil) ≡ bs)
@@ -251,12 +197,9 @@ chosen bs fit is =
 second_block : (bs : Branches) → Fit forms.SecondBlock bs → IsAll bs → (nil ≡ bs) ⊎ ((b : Block) × (cons (of_block b) nil ≡ bs))
 second_block nil fit is = inl refl
 second_block (cons b bs) fit is =
-    elim (on-cases (class_of_branch b) classes.Block forms.Nothing fit.0 None fit.1) [
-      | inl p ↦
-          (let y : Is classes.Block b = subst (λ c. Is c b) p.0 is.0 in
-          let n = none_left bs (subst (λ k. Fit k bs) (sym p.1) fit.2) in
-          inr (y.0, λ j. cons (y.1 j) (n j)))
-      | inr q ↦ absurd (none-some refl q)
+    elim (on-front classes.Block forms.Nothing None b bs fit is.0) [
+      | inl p ↦ inr (p.0.0, λ j. cons (p.0.1 j) (none_left bs p.1 j))
+      | inr q ↦ absurd (none-some _ q)
     ]
 
 -- a condition and one block or two
@@ -280,18 +223,14 @@ some-statements bs fit is =
 program : (p : ℕ) (bs : Branches) → Fit forms.Whole bs → IsAll bs → (t : Program) × (of_program t ≡ branch kinds.Program 0 0 p bs)
 program p nil fit is = absurd (both_ways false refl fit)
 program p (cons b bs) fit is =
-    elim (on-cases (class_of_branch b) classes.Expression forms.Nothing fit.0 _ fit.1) [
-      | inl q ↦
-          (let y : Is classes.Expression b = subst (λ c. Is c b) q.0 is.0 in
-          let n = none_left bs (subst (λ k. Fit k bs) (sym q.1) fit.2) in
-          (single p y.0, λ j. branch kinds.Program 0 0 p (cons (y.1 j) (n j))))
+    elim (on-front classes.Expression forms.Nothing _ b bs fit is.0) [
+      | inl q ↦ (single p q.0.0, λ j. branch kinds.Program 0 0 p (cons (q.0.1 j) (none_left bs q.1 j)))
       | inr r ↦
-          elim (on-cases (class_of_branch b) classes.Declaration forms.Declarations fit.0 None r) [
+          elim (on-front classes.Declaration forms.Declarations None b bs (fit.0, r, fit.2) is.0) [
             | inl q ↦
-                (let y : Is classes.Declaration b = subst (λ c. Is c b) q.0 is.0 in
-                let u = declarations bs (subst (λ k. Fit k bs) (sym q.1) fit.2) is.1 in
-                (whole p y.0 u.0 u.1 u.2, λ j. branch kinds.Program 0 0 p (cons (y.1 j) (u.3 j))))
-            | inr o ↦ absurd (none-some refl o)
+                (let u = declarations bs q.1 is.1 in
+                (whole p q.0.0 u.0 u.1 u.2, λ j. branch kinds.Program 0 0 p (cons (q.0.1 j) (u.3 j))))
+            | inr o ↦ absurd (none-some _ o)
           ]
     ]
 

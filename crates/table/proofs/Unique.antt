@@ -1,9 +1,8 @@
 -- A branch is that of one tree at most. Assumes nothing.
-use Rattle.std.proofs.Common.{◌≡◌, ℕ, Bool, true, false, List, [], ◌∷◌, sym, refl, ap, ◌∙◌, subst, inl, inr, arith}
+use Rattle.std.proofs.Common.{◌≡◌, ℕ, Bool, List, [], ◌∷◌, sym, refl, ap, ◌∙◌, subst, inl, inr, arith}
 use Rattle.table.specs.declared.kinds.Kind.{Kind}
 use Rattle.table.specs.declared.kinds.Class.{Class}
 use Rattle.table.specs.declared.kinds.Class.TheVariants as classes
-use Rattle.table.specs.Forms.{class_number}
 use Rattle.table.specs.Tree.{Expression, Arguments, Statement, Statements, Block, ValueBlock, Final, Parameter, Declaration, Declarations, Body, Program}
 use Rattle.table.specs.Tree.Expression.{integer, truth, read, negation, operation, choice, call}
 use Rattle.table.specs.Tree.Arguments.{no_arguments, argument}
@@ -42,13 +41,10 @@ pub same-others : {a b : Branch} {as' bs : Branches} → cons a as' ≡ cons b b
 same-others h = cc
 
 pub nil-cons : {b : Branch} {bs : Branches} → nil ≡ cons b bs → ⊥
-nil-cons h = let z : ◌≡◌ {A = ℕ} 0 1 = cc in omega arith
+nil-cons h = grind arith
 
 truth-same : (a b : Bool) → truth_number a ≡ truth_number b → a ≡ b
-truth-same true true h = refl
-truth-same true false h = absurd (omega arith)
-truth-same false true h = absurd (omega arith)
-truth-same false false h = refl
+truth-same a b h = grind arith
 
 -- what follows a row of nodes does not begin with another of their class
 abbrev pub Lacks : Class → Branches → Type 0
@@ -64,16 +60,16 @@ pub apart : (b : Branch) (c d : Class) → class_of_branch b ≡ c → (c ≡ d 
 apart b c d p n q = n (sym p ∙ q)
 
 pub expression-not-statement : classes.Expression ≡ classes.Statement → ⊥
-expression-not-statement h = omega (arith, ap class_number h)
+expression-not-statement h = grind arith
 
 pub expression-not-declaration : classes.Expression ≡ classes.Declaration → ⊥
-expression-not-declaration h = omega (arith, ap class_number h)
+expression-not-declaration h = grind arith
 
 pub statement-not-declaration : classes.Statement ≡ classes.Declaration → ⊥
-statement-not-declaration h = omega (arith, ap class_number h)
+statement-not-declaration h = grind arith
 
 pub body-not-parameter : classes.Body ≡ classes.Parameter → ⊥
-body-not-parameter h = omega (arith, ap class_number h)
+body-not-parameter h = grind arith
 
 -- an expression behind statements
 pub value-lacks : (e : Expression) → Lacks classes.Statement (cons (of_expression e) nil)

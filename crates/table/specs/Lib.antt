@@ -3,6 +3,7 @@ pub mod Forms
 pub mod Tree
 pub mod Layout
 pub mod Listed
+pub mod ChildNodes
 pub mod Lays
 pub mod Answers
 pub mod Theorems

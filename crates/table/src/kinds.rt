@@ -1,12 +1,12 @@
 // The seventeen kinds of node, the classes in which they stand as children, and the forms that lists of children have.
-ghost use Rattle.std.specs.Prelude.{◌≡◌, None};
+ghost use Rattle.std.specs.Prelude.{◌≡◌, ok_or};
 ghost use Rattle.table.specs.Kinds.{kind_at, class_of, limits, limits_of, within};
-ghost use Rattle.table.specs.declared.kinds.Class.TheVariants.{Statement, Expression};
-ghost use Rattle.table.specs.declared.kinds.Form.TheVariants.{Nothing};
-ghost use Rattle.table.specs.Forms.{class_number, on, after, complete, form_of};
+ghost use Rattle.table.specs.Forms.{after, complete, form_of};
+
+use language::values::UnknownNumber;
 
 // The kinds, in the order of their numbers 1 to 17.
-#[derive(Clone, Copy)]
+#[derive(Clone, Copy, PartialEq, Eq, Debug)]
 pub enum Kind {
     Program,
     Variable,
@@ -28,7 +28,7 @@ pub enum Kind {
 }
 
 // What a node counts as among the children of another.
-#[derive(Clone, Copy)]
+#[derive(Clone, Copy, PartialEq, Eq, Debug)]
 pub enum Class {
     Declaration,
     Parameter,
@@ -42,7 +42,7 @@ pub enum Class {
 }
 
 // The children that are still to come, under one node.
-#[derive(Clone, Copy)]
+#[derive(Clone, Copy, PartialEq, Eq, Debug)]
 pub(crate) enum Form {
     // none
     Nothing,
@@ -78,7 +78,7 @@ pub(crate) enum Form {
 }
 
 // What the sub and the value of a record may be: sub from low to high, value to most.
-#[derive(Clone, Copy)]
+#[derive(Clone, Copy, PartialEq, Eq, Debug)]
 pub(crate) struct Limits {
     low: u32,
     high: u32,
@@ -100,36 +100,40 @@ impl Limits {
     fn admit(self, sub: u32, value: u32) -> bool
         ensures { result ≡ within self sub value }
     {
-        self.low <= sub && sub <= self.high && value <= self.most
+        (self.low..=self.high).contains(&sub) && value <= self.most
+    }
+}
+
+impl TryFrom<u32> for Kind {
+    type Error = UnknownNumber;
+
+    ghost try_from_gives = { λ n r. r ≡ ok_or (kind_at n) (record { 0 = n }) };
+
+    fn try_from(value: u32) -> Result<Kind, UnknownNumber> {
+        match value {
+            1 => Ok(Kind::Program),
+            2 => Ok(Kind::Variable),
+            3 => Ok(Kind::Function),
+            4 => Ok(Kind::Parameter),
+            5 => Ok(Kind::Body),
+            6 => Ok(Kind::Assignment),
+            7 => Ok(Kind::CallStatement),
+            8 => Ok(Kind::IfStatement),
+            9 => Ok(Kind::Block),
+            10 => Ok(Kind::Integer),
+            11 => Ok(Kind::Truth),
+            12 => Ok(Kind::Read),
+            13 => Ok(Kind::Not),
+            14 => Ok(Kind::Operator),
+            15 => Ok(Kind::IfExpression),
+            16 => Ok(Kind::ValueBlock),
+            17 => Ok(Kind::Call),
+            _ => Err(UnknownNumber(value)),
+        }
     }
 }
 
 impl Kind {
-    pub fn from_number(n: u32) -> Option<Kind>
-        ensures { result ≡ kind_at n }
-    {
-        match n {
-            1 => Some(Kind::Program),
-            2 => Some(Kind::Variable),
-            3 => Some(Kind::Function),
-            4 => Some(Kind::Parameter),
-            5 => Some(Kind::Body),
-            6 => Some(Kind::Assignment),
-            7 => Some(Kind::CallStatement),
-            8 => Some(Kind::IfStatement),
-            9 => Some(Kind::Block),
-            10 => Some(Kind::Integer),
-            11 => Some(Kind::Truth),
-            12 => Some(Kind::Read),
-            13 => Some(Kind::Not),
-            14 => Some(Kind::Operator),
-            15 => Some(Kind::IfExpression),
-            16 => Some(Kind::ValueBlock),
-            17 => Some(Kind::Call),
-            _ => None,
-        }
-    }
-
     pub fn class(self) -> Class
         ensures { result ≡ class_of self }
     {
@@ -190,80 +194,34 @@ impl Kind {
     }
 }
 
-impl Class {
-    fn number(self) -> u8
-        ensures { result ≡ class_number self }
-    {
-        match self {
-            Class::Declaration => 1,
-            Class::Parameter => 2,
-            Class::Body => 3,
-            Class::Statement => 4,
-            Class::Block => 5,
-            Class::Expression => 6,
-            Class::ValueBlock => 7,
-            Class::Other => 8,
-        }
-    }
-
-    // What comes after a child of this class: one form if it is the wanted one, another answer if not.
-    fn on(self, wanted: Class, then: Form, otherwise: Option<Form>) -> Option<Form>
-        ensures { result ≡ on self wanted then otherwise }
-    {
-        if self.number() == wanted.number() {
-            Some(then)
-        } else {
-            otherwise
-        }
-    }
-
-    // A statement in a row of them, or the expression that ends the row.
-    fn row(self, then: Form) -> Option<Form>
-        ensures { result ≡ on self Statement then (on self Expression Nothing None) }
-    {
-        self.on(
-            Class::Statement,
-            then,
-            self.on(Class::Expression, Form::Nothing, None),
-        )
-    }
-}
-
 impl Form {
     // What is to come after one more child, if that child may come here.
     pub(crate) fn after(self, child: Class) -> Option<Form>
         ensures { result ≡ after self child }
     {
-        match self {
-            Form::Nothing => None,
-            Form::OneExpression => child.on(Class::Expression, Form::Nothing, None),
-            Form::TwoExpressions => child.on(Class::Expression, Form::OneExpression, None),
-            Form::Expressions => child.on(Class::Expression, Form::Expressions, None),
-            Form::Whole => child.on(
-                Class::Expression,
-                Form::Nothing,
-                child.on(Class::Declaration, Form::Declarations, None),
+        match (self, child) {
+            (Form::OneExpression, Class::Expression) => Some(Form::Nothing),
+            (Form::TwoExpressions, Class::Expression) => Some(Form::OneExpression),
+            (Form::Expressions, Class::Expression) => Some(Form::Expressions),
+            (Form::Whole, Class::Expression) => Some(Form::Nothing),
+            (Form::Whole, Class::Declaration) => Some(Form::Declarations),
+            (Form::Declarations, Class::Declaration) => Some(Form::Declarations),
+            (Form::Declarations | Form::Statements, Class::Statement) => Some(Form::Statements),
+            (Form::Declarations | Form::Statements, Class::Expression) => Some(Form::Nothing),
+            (Form::Parameters, Class::Parameter) => Some(Form::Parameters),
+            (Form::Parameters, Class::Body) => Some(Form::Nothing),
+            (Form::Condition, Class::Expression) => Some(Form::FirstBlock),
+            (Form::FirstBlock, Class::Block) => Some(Form::SecondBlock),
+            (Form::SecondBlock, Class::Block) => Some(Form::Nothing),
+            (Form::SomeStatements | Form::OnlyStatements, Class::Statement) => Some(
+                Form::OnlyStatements,
             ),
-            Form::Declarations => child.on(
-                Class::Declaration,
-                Form::Declarations,
-                child.row(Form::Statements),
-            ),
-            Form::Statements => child.row(Form::Statements),
-            Form::Parameters => child.on(
-                Class::Parameter,
-                Form::Parameters,
-                child.on(Class::Body, Form::Nothing, None),
-            ),
-            Form::Condition => child.on(Class::Expression, Form::FirstBlock, None),
-            Form::FirstBlock => child.on(Class::Block, Form::SecondBlock, None),
-            Form::SecondBlock => child.on(Class::Block, Form::Nothing, None),
-            Form::SomeStatements => child.on(Class::Statement, Form::OnlyStatements, None),
-            Form::OnlyStatements => child.on(Class::Statement, Form::OnlyStatements, None),
-            Form::Choice => child.on(Class::Expression, Form::TwoValueBlocks, None),
-            Form::TwoValueBlocks => child.on(Class::ValueBlock, Form::OneValueBlock, None),
-            Form::OneValueBlock => child.on(Class::ValueBlock, Form::Nothing, None),
-            Form::Value => child.row(Form::Value),
+            (Form::Choice, Class::Expression) => Some(Form::TwoValueBlocks),
+            (Form::TwoValueBlocks, Class::ValueBlock) => Some(Form::OneValueBlock),
+            (Form::OneValueBlock, Class::ValueBlock) => Some(Form::Nothing),
+            (Form::Value, Class::Statement) => Some(Form::Value),
+            (Form::Value, Class::Expression) => Some(Form::Nothing),
+            _ => None,
         }
     }
 
@@ -271,12 +229,14 @@ impl Form {
     pub(crate) fn is_complete(self) -> bool
         ensures { result ≡ complete self }
     {
-        match self {
-            Form::Nothing | Form::Expressions | Form::SecondBlock => true,
-            Form::Declarations | Form::Statements | Form::OnlyStatements => true,
-            Form::OneExpression | Form::TwoExpressions | Form::Whole | Form::Parameters => false,
-            Form::Condition | Form::FirstBlock | Form::SomeStatements => false,
-            Form::Choice | Form::TwoValueBlocks | Form::OneValueBlock | Form::Value => false,
-        }
+        matches!(
+            self,
+            Form::Nothing
+                | Form::Expressions
+                | Form::Declarations
+                | Form::Statements
+                | Form::SecondBlock
+                | Form::OnlyStatements
+        )
     }
 }

@@ -1,4 +1,5 @@
 // What is shown of tables and trees, each theorem named by a contract.
+// Stays one function for each promise: the documents name a promise by its function, and one with many clauses would be no plainer.
 ghost use Rattle.table.specs.Samples.{SamplesLaidOut};
 ghost use Rattle.table.specs.Theorems.{ListedJustWhenLaidOut, OneTree, RefusedAtLowest, OneAnswer};
 

@@ -1,6 +1,5 @@
 // Tests of the check of a table: one table with every kind, damaged in one field at a time.
 use std::process::Abort;
-use std::test::Fail;
 use table::checking;
 use table::nodes::Node;
 
@@ -57,240 +56,236 @@ static WHOLE: [[u32; 5]; 48] = [
     [10, 0, 2, 48, 147],
 ];
 
-// node, field (0 kind, 1 sub, 2 value, 3 end), what stands there, the place of the refusal
-static REFUSED: [[u32; 4]; 187] = [
-    [0, 0, 0, 100],
-    [0, 0, 18, 100],
-    [0, 0, 2, 100],
-    [0, 1, 1, 100],
-    [0, 2, 1, 100],
-    [0, 3, 0, 100],
-    [0, 3, 0, 100],
-    [0, 3, 47, 100],
-    [0, 3, 49, 100],
-    [0, 3, 49, 100],
-    [0, 3, 4_294_967_295, 100],
-    [1, 0, 0, 100],
-    [1, 0, 18, 100],
-    [1, 0, 3, 101],
-    [1, 1, 0, 101],
-    [1, 1, 3, 101],
-    [1, 2, 1024, 101],
-    [1, 3, 0, 100],
-    [1, 3, 1, 100],
-    [1, 3, 1, 100],
-    [1, 3, 3, 100],
-    [1, 3, 49, 100],
-    [1, 3, 4_294_967_295, 100],
-    [2, 0, 0, 100],
-    [2, 0, 18, 100],
-    [2, 0, 4, 100],
-    [2, 1, 3, 102],
-    [2, 2, 1024, 102],
-    [2, 3, 0, 100],
-    [2, 3, 2, 100],
-    [2, 3, 40, 100],
-    [2, 3, 42, 100],
-    [2, 3, 49, 100],
-    [2, 3, 4_294_967_295, 100],
-    [3, 0, 0, 102],
-    [3, 0, 18, 102],
-    [3, 0, 5, 102],
-    [3, 1, 0, 103],
-    [3, 1, 3, 103],
-    [3, 2, 1024, 103],
-    [3, 3, 0, 102],
-    [3, 3, 3, 102],
-    [3, 3, 3, 102],
-    [3, 3, 5, 103],
-    [3, 3, 49, 102],
-    [3, 3, 4_294_967_295, 102],
-    [5, 0, 0, 102],
-    [5, 0, 18, 102],
-    [5, 0, 6, 102],
-    [5, 1, 1, 105],
-    [5, 2, 1, 105],
-    [5, 3, 0, 102],
-    [5, 3, 5, 102],
-    [5, 3, 40, 102],
-    [5, 3, 42, 102],
-    [5, 3, 49, 102],
-    [5, 3, 4_294_967_295, 102],
-    [7, 0, 0, 105],
-    [7, 0, 18, 105],
-    [7, 1, 1, 107],
-    [7, 2, 1024, 107],
-    [7, 3, 0, 105],
-    [7, 3, 7, 105],
-    [7, 3, 8, 105],
-    [7, 3, 10, 105],
-    [7, 3, 49, 105],
-    [7, 3, 4_294_967_295, 105],
-    [9, 0, 0, 105],
-    [9, 0, 18, 105],
-    [9, 0, 8, 109],
-    [9, 1, 1, 109],
-    [9, 2, 1024, 109],
-    [9, 3, 0, 105],
-    [9, 3, 9, 105],
-    [9, 3, 11, 105],
-    [9, 3, 13, 105],
-    [9, 3, 49, 105],
-    [9, 3, 4_294_967_295, 105],
-    [12, 0, 0, 105],
-    [12, 0, 18, 105],
-    [12, 0, 9, 105],
-    [12, 1, 1, 112],
-    [12, 2, 1, 112],
-    [12, 3, 0, 105],
-    [12, 3, 12, 105],
-    [12, 3, 21, 105],
-    [12, 3, 23, 105],
-    [12, 3, 49, 105],
-    [12, 3, 4_294_967_295, 105],
-    [14, 0, 0, 112],
-    [14, 0, 18, 112],
-    [14, 0, 10, 112],
-    [14, 1, 1, 114],
-    [14, 2, 1, 114],
-    [14, 3, 0, 112],
-    [14, 3, 14, 112],
-    [14, 3, 16, 112],
-    [14, 3, 18, 112],
-    [14, 3, 49, 112],
-    [14, 3, 4_294_967_295, 112],
-    [8, 0, 0, 107],
-    [8, 0, 18, 107],
-    [8, 1, 1, 108],
-    [8, 2, 2_147_483_648, 108],
-    [8, 3, 0, 107],
-    [8, 3, 8, 107],
-    [8, 3, 8, 107],
-    [8, 3, 10, 107],
-    [8, 3, 49, 107],
-    [8, 3, 4_294_967_295, 107],
-    [35, 0, 0, 132],
-    [35, 0, 18, 132],
-    [35, 1, 1, 135],
-    [35, 2, 2, 135],
-    [35, 3, 0, 132],
-    [35, 3, 35, 132],
-    [35, 3, 35, 132],
-    [35, 3, 37, 132],
-    [35, 3, 49, 132],
-    [35, 3, 4_294_967_295, 132],
-    [10, 0, 0, 109],
-    [10, 0, 18, 109],
-    [10, 0, 13, 110],
-    [10, 1, 1, 110],
-    [10, 2, 1024, 110],
-    [10, 3, 0, 109],
-    [10, 3, 10, 109],
-    [10, 3, 10, 109],
-    [10, 3, 12, 110],
-    [10, 3, 49, 109],
-    [10, 3, 4_294_967_295, 109],
-    [23, 0, 0, 122],
-    [23, 0, 18, 122],
-    [23, 0, 14, 123],
-    [23, 1, 1, 123],
-    [23, 2, 1, 123],
-    [23, 3, 0, 122],
-    [23, 3, 23, 122],
-    [23, 3, 24, 122],
-    [23, 3, 26, 122],
-    [23, 3, 49, 122],
-    [23, 3, 4_294_967_295, 122],
-    [29, 0, 0, 105],
-    [29, 0, 18, 105],
-    [29, 0, 15, 129],
-    [29, 1, 0, 129],
-    [29, 1, 12, 129],
-    [29, 2, 1, 129],
-    [29, 3, 0, 105],
-    [29, 3, 29, 105],
-    [29, 3, 40, 105],
-    [29, 3, 42, 105],
-    [29, 3, 49, 105],
-    [29, 3, 4_294_967_295, 105],
-    [30, 0, 0, 129],
-    [30, 0, 18, 129],
-    [30, 0, 16, 129],
-    [30, 1, 1, 130],
-    [30, 2, 1, 130],
-    [30, 3, 0, 129],
-    [30, 3, 30, 129],
-    [30, 3, 37, 129],
-    [30, 3, 39, 129],
-    [30, 3, 49, 129],
-    [30, 3, 4_294_967_295, 129],
-    [32, 0, 0, 130],
-    [32, 0, 18, 130],
-    [32, 0, 17, 130],
-    [32, 1, 1, 132],
-    [32, 2, 1, 132],
-    [32, 3, 0, 130],
-    [32, 3, 32, 130],
-    [32, 3, 35, 130],
-    [32, 3, 37, 130],
-    [32, 3, 49, 130],
-    [32, 3, 4_294_967_295, 130],
-    [38, 0, 0, 129],
-    [38, 0, 18, 129],
-    [38, 0, 1, 129],
-    [38, 1, 1, 138],
-    [38, 2, 1024, 138],
-    [38, 3, 0, 129],
-    [38, 3, 38, 129],
-    [38, 3, 40, 129],
-    [38, 3, 42, 129],
-    [38, 3, 49, 129],
-    [38, 3, 4_294_967_295, 129],
-];
-
-// changes after which it is a table still, the last ones of places (field 4)
-static ACCEPTED: [[u32; 3]; 6] = [
-    [7, 0, 7],
-    [8, 0, 11],
-    [35, 0, 12],
-    [0, 4, 0],
-    [5, 4, 4_294_967_295],
-    [20, 4, 7],
-];
-
-const BLANK: Node = Node {
-    kind: 0,
-    sub: 0,
-    value: 0,
-    end: 0,
-    place: 0,
-};
-
-fn whole() -> [Node; 48] {
-    let mut nodes = [BLANK; 48];
-    for i in 0..48 {
-        let [kind, sub, value, end, place] = WHOLE[i];
-        nodes[i] = Node {
-            kind,
-            sub,
-            value,
-            end,
-            place,
-        };
-    }
-    nodes
+// A field of a node.
+#[derive(Clone, Copy, PartialEq, Eq, Debug)]
+enum Field {
+    Kind,
+    Sub,
+    Value,
+    End,
+    Place,
 }
 
-fn changed(at: u32, field: u32, number: u32) -> [Node; 48] {
+// node, field, what stands there, the place of the refusal
+static REFUSED: [(usize, Field, u32, u32); 187] = [
+    (0, Field::Kind, 0, 100),
+    (0, Field::Kind, 18, 100),
+    (0, Field::Kind, 2, 100),
+    (0, Field::Sub, 1, 100),
+    (0, Field::Value, 1, 100),
+    (0, Field::End, 0, 100),
+    (0, Field::End, 0, 100),
+    (0, Field::End, 47, 100),
+    (0, Field::End, 49, 100),
+    (0, Field::End, 49, 100),
+    (0, Field::End, 4_294_967_295, 100),
+    (1, Field::Kind, 0, 100),
+    (1, Field::Kind, 18, 100),
+    (1, Field::Kind, 3, 101),
+    (1, Field::Sub, 0, 101),
+    (1, Field::Sub, 3, 101),
+    (1, Field::Value, 1024, 101),
+    (1, Field::End, 0, 100),
+    (1, Field::End, 1, 100),
+    (1, Field::End, 1, 100),
+    (1, Field::End, 3, 100),
+    (1, Field::End, 49, 100),
+    (1, Field::End, 4_294_967_295, 100),
+    (2, Field::Kind, 0, 100),
+    (2, Field::Kind, 18, 100),
+    (2, Field::Kind, 4, 100),
+    (2, Field::Sub, 3, 102),
+    (2, Field::Value, 1024, 102),
+    (2, Field::End, 0, 100),
+    (2, Field::End, 2, 100),
+    (2, Field::End, 40, 100),
+    (2, Field::End, 42, 100),
+    (2, Field::End, 49, 100),
+    (2, Field::End, 4_294_967_295, 100),
+    (3, Field::Kind, 0, 102),
+    (3, Field::Kind, 18, 102),
+    (3, Field::Kind, 5, 102),
+    (3, Field::Sub, 0, 103),
+    (3, Field::Sub, 3, 103),
+    (3, Field::Value, 1024, 103),
+    (3, Field::End, 0, 102),
+    (3, Field::End, 3, 102),
+    (3, Field::End, 3, 102),
+    (3, Field::End, 5, 103),
+    (3, Field::End, 49, 102),
+    (3, Field::End, 4_294_967_295, 102),
+    (5, Field::Kind, 0, 102),
+    (5, Field::Kind, 18, 102),
+    (5, Field::Kind, 6, 102),
+    (5, Field::Sub, 1, 105),
+    (5, Field::Value, 1, 105),
+    (5, Field::End, 0, 102),
+    (5, Field::End, 5, 102),
+    (5, Field::End, 40, 102),
+    (5, Field::End, 42, 102),
+    (5, Field::End, 49, 102),
+    (5, Field::End, 4_294_967_295, 102),
+    (7, Field::Kind, 0, 105),
+    (7, Field::Kind, 18, 105),
+    (7, Field::Sub, 1, 107),
+    (7, Field::Value, 1024, 107),
+    (7, Field::End, 0, 105),
+    (7, Field::End, 7, 105),
+    (7, Field::End, 8, 105),
+    (7, Field::End, 10, 105),
+    (7, Field::End, 49, 105),
+    (7, Field::End, 4_294_967_295, 105),
+    (9, Field::Kind, 0, 105),
+    (9, Field::Kind, 18, 105),
+    (9, Field::Kind, 8, 109),
+    (9, Field::Sub, 1, 109),
+    (9, Field::Value, 1024, 109),
+    (9, Field::End, 0, 105),
+    (9, Field::End, 9, 105),
+    (9, Field::End, 11, 105),
+    (9, Field::End, 13, 105),
+    (9, Field::End, 49, 105),
+    (9, Field::End, 4_294_967_295, 105),
+    (12, Field::Kind, 0, 105),
+    (12, Field::Kind, 18, 105),
+    (12, Field::Kind, 9, 105),
+    (12, Field::Sub, 1, 112),
+    (12, Field::Value, 1, 112),
+    (12, Field::End, 0, 105),
+    (12, Field::End, 12, 105),
+    (12, Field::End, 21, 105),
+    (12, Field::End, 23, 105),
+    (12, Field::End, 49, 105),
+    (12, Field::End, 4_294_967_295, 105),
+    (14, Field::Kind, 0, 112),
+    (14, Field::Kind, 18, 112),
+    (14, Field::Kind, 10, 112),
+    (14, Field::Sub, 1, 114),
+    (14, Field::Value, 1, 114),
+    (14, Field::End, 0, 112),
+    (14, Field::End, 14, 112),
+    (14, Field::End, 16, 112),
+    (14, Field::End, 18, 112),
+    (14, Field::End, 49, 112),
+    (14, Field::End, 4_294_967_295, 112),
+    (8, Field::Kind, 0, 107),
+    (8, Field::Kind, 18, 107),
+    (8, Field::Sub, 1, 108),
+    (8, Field::Value, 2_147_483_648, 108),
+    (8, Field::End, 0, 107),
+    (8, Field::End, 8, 107),
+    (8, Field::End, 8, 107),
+    (8, Field::End, 10, 107),
+    (8, Field::End, 49, 107),
+    (8, Field::End, 4_294_967_295, 107),
+    (35, Field::Kind, 0, 132),
+    (35, Field::Kind, 18, 132),
+    (35, Field::Sub, 1, 135),
+    (35, Field::Value, 2, 135),
+    (35, Field::End, 0, 132),
+    (35, Field::End, 35, 132),
+    (35, Field::End, 35, 132),
+    (35, Field::End, 37, 132),
+    (35, Field::End, 49, 132),
+    (35, Field::End, 4_294_967_295, 132),
+    (10, Field::Kind, 0, 109),
+    (10, Field::Kind, 18, 109),
+    (10, Field::Kind, 13, 110),
+    (10, Field::Sub, 1, 110),
+    (10, Field::Value, 1024, 110),
+    (10, Field::End, 0, 109),
+    (10, Field::End, 10, 109),
+    (10, Field::End, 10, 109),
+    (10, Field::End, 12, 110),
+    (10, Field::End, 49, 109),
+    (10, Field::End, 4_294_967_295, 109),
+    (23, Field::Kind, 0, 122),
+    (23, Field::Kind, 18, 122),
+    (23, Field::Kind, 14, 123),
+    (23, Field::Sub, 1, 123),
+    (23, Field::Value, 1, 123),
+    (23, Field::End, 0, 122),
+    (23, Field::End, 23, 122),
+    (23, Field::End, 24, 122),
+    (23, Field::End, 26, 122),
+    (23, Field::End, 49, 122),
+    (23, Field::End, 4_294_967_295, 122),
+    (29, Field::Kind, 0, 105),
+    (29, Field::Kind, 18, 105),
+    (29, Field::Kind, 15, 129),
+    (29, Field::Sub, 0, 129),
+    (29, Field::Sub, 12, 129),
+    (29, Field::Value, 1, 129),
+    (29, Field::End, 0, 105),
+    (29, Field::End, 29, 105),
+    (29, Field::End, 40, 105),
+    (29, Field::End, 42, 105),
+    (29, Field::End, 49, 105),
+    (29, Field::End, 4_294_967_295, 105),
+    (30, Field::Kind, 0, 129),
+    (30, Field::Kind, 18, 129),
+    (30, Field::Kind, 16, 129),
+    (30, Field::Sub, 1, 130),
+    (30, Field::Value, 1, 130),
+    (30, Field::End, 0, 129),
+    (30, Field::End, 30, 129),
+    (30, Field::End, 37, 129),
+    (30, Field::End, 39, 129),
+    (30, Field::End, 49, 129),
+    (30, Field::End, 4_294_967_295, 129),
+    (32, Field::Kind, 0, 130),
+    (32, Field::Kind, 18, 130),
+    (32, Field::Kind, 17, 130),
+    (32, Field::Sub, 1, 132),
+    (32, Field::Value, 1, 132),
+    (32, Field::End, 0, 130),
+    (32, Field::End, 32, 130),
+    (32, Field::End, 35, 130),
+    (32, Field::End, 37, 130),
+    (32, Field::End, 49, 130),
+    (32, Field::End, 4_294_967_295, 130),
+    (38, Field::Kind, 0, 129),
+    (38, Field::Kind, 18, 129),
+    (38, Field::Kind, 1, 129),
+    (38, Field::Sub, 1, 138),
+    (38, Field::Value, 1024, 138),
+    (38, Field::End, 0, 129),
+    (38, Field::End, 38, 129),
+    (38, Field::End, 40, 129),
+    (38, Field::End, 42, 129),
+    (38, Field::End, 49, 129),
+    (38, Field::End, 4_294_967_295, 129),
+];
+
+// node, field, what stands there: changes after which it is a table still, the last ones of places
+static ACCEPTED: [(usize, Field, u32); 6] = [
+    (7, Field::Kind, 7),
+    (8, Field::Kind, 11),
+    (35, Field::Kind, 12),
+    (0, Field::Place, 0),
+    (5, Field::Place, 4_294_967_295),
+    (20, Field::Place, 7),
+];
+
+fn whole() -> [Node; 48] {
+    WHOLE.map(|[kind, sub, value, end, place]| Node {
+        kind,
+        sub,
+        value,
+        end,
+        place,
+    })
+}
+
+fn changed(at: usize, field: Field, number: u32) -> [Node; 48] {
     let mut nodes = whole();
-    let i = at as usize;
-    if i < 48 {
+    if let Some(node) = nodes.get_mut(at) {
         match field {
-            0 => nodes[i].kind = number,
-            1 => nodes[i].sub = number,
-            2 => nodes[i].value = number,
-            3 => nodes[i].end = number,
-            _ => nodes[i].place = number,
+            Field::Kind => node.kind = number,
+            Field::Sub => node.sub = number,
+            Field::Value => node.value = number,
+            Field::End => node.end = number,
+            Field::Place => node.place = number,
         }
     }
     nodes
@@ -298,22 +293,17 @@ fn changed(at: u32, field: u32, number: u32) -> [Node; 48] {
 
 // The place of the refusal, or none.
 fn refusal(nodes: &[Node]) -> Option<u32> {
-    match checking::check(nodes) {
-        Ok(()) => None,
-        Err(fault) => Some(fault.place),
-    }
+    checking::check(nodes).err().map(|fault| fault.place)
 }
 
-fn each_refused(rt: &impl Abort, changes: &[[u32; 4]]) {
-    for change in changes {
-        let [at, field, number, place] = *change;
+fn each_refused(rt: &impl Abort, changes: &[(usize, Field, u32, u32)]) {
+    for &(at, field, number, place) in changes {
         assert_eq!(rt; refusal(&changed(at, field, number)), Some(place));
     }
 }
 
-fn each_accepted(rt: &impl Abort, changes: &[[u32; 3]]) {
-    for change in changes {
-        let [at, field, number] = *change;
+fn each_accepted(rt: &impl Abort, changes: &[(usize, Field, u32)]) {
+    for &(at, field, number) in changes {
         assert_eq!(rt; refusal(&changed(at, field, number)), None);
     }
 }
@@ -331,22 +321,17 @@ fn not_damaged(rt: HostRuntime) {
 
 // A program of one expression, as deep as it has nodes.
 fn deep(count: u32) -> [Node; 4_097] {
-    let mut nodes = [BLANK; 4_097];
-    for i in 0..4_097 {
-        let kind = if i == 0 {
+    let mut nodes = [Node::default(); 4_097];
+    for (i, node) in (0..).zip(&mut nodes) {
+        node.kind = if i == 0 {
             1
-        } else if i as u32 + 1 == count {
+        } else if i + 1 == count {
             11
         } else {
             13
         };
-        nodes[i] = Node {
-            kind,
-            sub: 0,
-            value: 0,
-            end: count,
-            place: 7,
-        };
+        node.end = count;
+        node.place = 7;
     }
     nodes
 }
@@ -361,12 +346,9 @@ fn lengths(rt: HostRuntime) {
 }
 
 #[test]
-fn refusals_are_eleven(rt: HostRuntime) -> Result<(), Fail> {
-    match checking::check(&[BLANK]) {
-        Ok(()) => Err(Fail::new("a blank node is taken for a table")),
-        Err(fault) => {
-            assert_eq!(rt; fault.cause.number(), 11);
-            Ok(())
-        },
-    }
+fn refusals_are_eleven(rt: HostRuntime) {
+    assert_eq!(rt;
+        checking::check(&[Node::default()]).map_err(|fault| fault.cause.number()),
+        Err(11)
+    );
 }
