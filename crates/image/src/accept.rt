@@ -4,35 +4,27 @@ ghost use Rattle.image.specs.Accept.{accepted};
 
 use crate::instruction::{Accepted, Header};
 use language::faults::{Cause, Fault};
+use language::opcodes::Opcode;
 use language::values::ValueType;
 
 // The most codes that an image may have.
 pub const MOST_CODES: u32 = 12_288;
-
-// The answer to what is no image.
-const FOREIGN: Fault = Fault {
-    cause: Cause::Bring,
-    place: 0,
-};
 
 // What is known of an image; a row of words that is none is refused.
 pub fn accept(words: &[u32]) -> Result<Accepted, Fault>
     ensures value { result ≡ accepted words.now }
     ensures bound { IfOk result (λ a. (2 + 2 * a.header.count ≤ length words.now) × (a.others ≤ 255)) }
 {
-    if words.len() < 4 {
-        return Err(FOREIGN);
-    }
-    let count = words[0];
-    if count < 1 || count > MOST_CODES || words.len() != 2 + 2 * count as usize {
-        return Err(FOREIGN);
-    }
-    let Some(result) = ValueType::from_number(words[1]) else {
-        return Err(FOREIGN);
+    let &[count, number, first, ..] = words else {
+        return Err(Cause::Bring.into());
     };
+    if count < 1 || count > MOST_CODES || words.len() != 2 + 2 * count as usize {
+        return Err(Cause::Bring.into());
+    }
+    let result = ValueType::try_from(number).map_err(|_| Cause::Bring)?;
     let others = words[2 + count as usize];
-    if words[2] != 22 || others > 255 {
-        return Err(FOREIGN);
+    if first != u32::from(Opcode::Entry) || others > 255 {
+        return Err(Cause::Bring.into());
     }
     Ok(Accepted {
         header: Header { count, result },

@@ -1,20 +1,28 @@
 // From words to instructions. A word that is no lawful code or operand is trouble, and never read past.
 ghost use Rattle.std.specs.Prelude.{◌≡◌, ◌+◌, ◌*◌, ◌<◌, ◌≤◌, length, OnOk};
-ghost use Rattle.image.specs.Fetch.{bare, either, literal, slot, target, call, operator, decoded, fetched};
+ghost use Rattle.image.specs.Fetch.{bare, either, literal, slot, target, call, decoded, fetched};
+ghost use Rattle.image.specs.declared.instruction.Instruction.TheVariants as instructions;
 
 use crate::instruction::{Entry, Header, Instruction, Local, Slot};
 use language::faults::{Halt, Trouble};
-use language::values::Operator;
+use language::opcodes::Opcode;
+
+// An image: its words, and what is known of them. All its codes and operands lie within the words.
+#[derive(Clone, Copy, PartialEq, Eq, Debug)]
+pub struct Image<'a> {
+    pub words: &'a [u32],
+    pub header: Header,
+    ghost whole: { 2 + 2 * header.count ≤ length words.now },
+}
 
 // An instruction whose operand must be 0.
 fn bare_of(operand: u32, instruction: Instruction) -> Result<Instruction, Halt>
     ensures { result ≡ bare operand instruction }
 {
-    if operand == 0 {
-        Ok(instruction)
-    } else {
-        Err(Halt::Troubled(Trouble::Unlawful))
+    if operand != 0 {
+        return Err(Trouble::Unlawful.into());
     }
+    Ok(instruction)
 }
 
 // The first at operand 0, the second at 1.
@@ -24,17 +32,16 @@ fn either_of(operand: u32, first: Instruction, second: Instruction) -> Result<In
     match operand {
         0 => Ok(first),
         1 => Ok(second),
-        _ => Err(Halt::Troubled(Trouble::Unlawful)),
+        _ => Err(Trouble::Unlawful.into()),
     }
 }
 
+// The number that an operand stands for.
 fn literal_of(operand: u32) -> Result<Instruction, Halt>
     ensures { result ≡ literal operand }
 {
-    if operand <= 2_147_483_647 {
-        return Ok(Instruction::Local(Local::PushNumber(operand as i32)));
-    }
-    Err(Halt::Troubled(Trouble::Unlawful))
+    let number = i32::try_from(operand).map_err(|_| Trouble::Unlawful)?;
+    Ok(Local::PushNumber(number).into())
 }
 
 fn slot_of(operand: u32) -> Slot
@@ -46,119 +53,77 @@ fn slot_of(operand: u32) -> Slot
     }
 }
 
-// An operator, codes 5 to 15; any other code is unlawful.
-fn operator_of(code: u32, operand: u32) -> Result<Instruction, Halt>
-    ensures { result ≡ operator code operand }
-{
-    match code {
-        5 => bare_of(
-            operand,
-            Instruction::Local(Local::Operate(Operator::Multiply)),
-        ),
-        6 => bare_of(
-            operand,
-            Instruction::Local(Local::Operate(Operator::Divide)),
-        ),
-        7 => bare_of(operand, Instruction::Local(Local::Operate(Operator::Add))),
-        8 => bare_of(
-            operand,
-            Instruction::Local(Local::Operate(Operator::Subtract)),
-        ),
-        9 => bare_of(operand, Instruction::Local(Local::Operate(Operator::Less))),
-        10 => bare_of(
-            operand,
-            Instruction::Local(Local::Operate(Operator::LessOrEqual)),
-        ),
-        11 => bare_of(
-            operand,
-            Instruction::Local(Local::Operate(Operator::Greater)),
-        ),
-        12 => bare_of(
-            operand,
-            Instruction::Local(Local::Operate(Operator::GreaterOrEqual)),
-        ),
-        13 => bare_of(operand, Instruction::Local(Local::Operate(Operator::Equal))),
-        14 => bare_of(operand, Instruction::Local(Local::Operate(Operator::And))),
-        15 => bare_of(operand, Instruction::Local(Local::Operate(Operator::Or))),
-        _ => Err(Halt::Troubled(Trouble::Unlawful)),
-    }
-}
-
-impl Header {
+impl Image<'_> {
     // A jump, where its target is below the number of codes.
-    fn target_of(self, operand: u32, jump: Instruction) -> Result<Instruction, Halt>
-        ensures { result ≡ target self operand jump }
+    fn target_of(self, operand: u32, jump: Local) -> Result<Instruction, Halt>
+        ensures { result ≡ target self.entry.header operand (instructions.Local jump) }
     {
-        if operand < self.count {
-            Ok(jump)
-        } else {
-            Err(Halt::Troubled(Trouble::Unlawful))
+        if operand >= self.header.count {
+            return Err(Trouble::Unlawful.into());
         }
+        Ok(jump.into())
     }
 
     // A call, where its target is an entry.
-    fn call_of(self, words: &[u32], operand: u32) -> Result<Instruction, Halt>
-        requires { 2 + 2 * self.count ≤ length words.now }
-        ensures { result ≡ call words.now self operand }
+    fn call_of(self, operand: u32) -> Result<Instruction, Halt>
+        ensures { result ≡ call self.entry.words.now self.entry.header operand }
     {
-        if operand >= self.count {
-            return Err(Halt::Troubled(Trouble::Unlawful));
+        if operand >= self.header.count {
+            return Err(Trouble::Unlawful.into());
         }
         let at = operand as usize;
-        if words[2 + at] != 22 {
-            return Err(Halt::Troubled(Trouble::Unlawful));
+        if self.words[2 + at] != u32::from(Opcode::Entry) {
+            return Err(Trouble::Unlawful.into());
         }
-        let packed = words[2 + self.count as usize + at];
-        Ok(Instruction::Local(Local::Call(Entry {
+        let packed = self.words[2 + self.header.count as usize + at];
+        let entry = Entry {
             start: operand + 1,
             parameters: packed / 256,
             others: packed % 256,
-        })))
+        };
+        Ok(Local::Call(entry).into())
     }
 
     // The instruction that a code and its operand stand for.
-    fn decode(self, words: &[u32], code: u32, operand: u32) -> Result<Instruction, Halt>
-        requires { 2 + 2 * self.count ≤ length words.now }
-        ensures { result ≡ decoded words.now self code operand }
+    fn decode(self, code: u32, operand: u32) -> Result<Instruction, Halt>
+        ensures { result ≡ decoded self.entry.words.now self.entry.header code operand }
     {
-        match code {
-            1 => literal_of(operand),
-            2 => either_of(
+        let opcode = Opcode::try_from(code).map_err(|_| Trouble::Unlawful)?;
+        match opcode {
+            Opcode::PushNumber => literal_of(operand),
+            Opcode::PushTruth => either_of(
                 operand,
-                Instruction::Local(Local::PushTruth(false)),
-                Instruction::Local(Local::PushTruth(true)),
+                Local::PushTruth(false).into(),
+                Local::PushTruth(true).into(),
             ),
-            3 => Ok(Instruction::Local(Local::Load(slot_of(operand)))),
-            4 => Ok(Instruction::Local(Local::Store(slot_of(operand)))),
-            16 => bare_of(operand, Instruction::Local(Local::Not)),
-            17 => bare_of(operand, Instruction::Local(Local::Discard)),
-            18 => self.target_of(operand, Instruction::Local(Local::Jump(operand))),
-            19 => self.target_of(operand, Instruction::Local(Local::JumpIfFalse(operand))),
-            20 => Ok(Instruction::Local(Local::Open(operand))),
-            21 => self.call_of(words, operand),
-            23 => either_of(
-                operand,
-                Instruction::Local(Local::Return),
-                Instruction::Local(Local::ReturnValue),
-            ),
-            24 => bare_of(operand, Instruction::Amount),
-            25 => bare_of(operand, Instruction::Flag),
-            26 => bare_of(operand, Instruction::Post),
-            27 => either_of(operand, Instruction::End, Instruction::EndValue),
-            _ => operator_of(code, operand),
+            Opcode::Load => Ok(Local::Load(slot_of(operand)).into()),
+            Opcode::Store => Ok(Local::Store(slot_of(operand)).into()),
+            Opcode::Operate(operator) => bare_of(operand, Local::Operate(operator).into()),
+            Opcode::Not => bare_of(operand, Local::Not.into()),
+            Opcode::Discard => bare_of(operand, Local::Discard.into()),
+            Opcode::Jump => self.target_of(operand, Local::Jump(operand)),
+            Opcode::JumpIfFalse => self.target_of(operand, Local::JumpIfFalse(operand)),
+            Opcode::OpenLinks => Ok(Local::Open(operand).into()),
+            Opcode::Call => self.call_of(operand),
+            Opcode::Entry => Err(Trouble::Unlawful.into()),
+            Opcode::Return => either_of(operand, Local::Return.into(), Local::ReturnValue.into()),
+            Opcode::Amount => bare_of(operand, Instruction::Amount),
+            Opcode::Flag => bare_of(operand, Instruction::Flag),
+            Opcode::Post => bare_of(operand, Instruction::Post),
+            Opcode::End => either_of(operand, Instruction::End, Instruction::EndValue),
         }
     }
 
     // The instruction at a program counter.
-    pub fn fetch(self, words: &[u32], counter: u32) -> Result<Instruction, Halt>
-        requires { 2 + 2 * self.count ≤ length words.now }
-        ensures value { result ≡ fetched words.now self counter }
-        ensures bound { OnOk result (counter < self.count) }
+    pub fn fetch(self, counter: u32) -> Result<Instruction, Halt>
+        ensures value { result ≡ fetched self.entry.words.now self.entry.header counter }
+        ensures bound { OnOk result (counter < self.entry.header.count) }
     {
-        if counter >= self.count {
-            return Err(Halt::Troubled(Trouble::Unlawful));
+        let count = self.header.count;
+        if counter >= count {
+            return Err(Trouble::Unlawful.into());
         }
         let at = counter as usize;
-        self.decode(words, words[2 + at], words[2 + self.count as usize + at])
+        self.decode(self.words[2 + at], self.words[2 + count as usize + at])
     }
 }

@@ -38,14 +38,12 @@ Left (Err h) r old m cells =
 abbrev pub Does : (State → Result State Halt) → Machine → List Cell → Result Flow Halt → Machine → List Cell → Type 0
 Does f m cells r m' cells' = Left (f (state m cells)) r (state m cells) m' cells'
 
--- what a step has made sure of when its instruction begins: the own frame lies below the top, and the top within the cells
-pub record Ready (m : Machine) (f : Frame) (cells : List Cell) : Type 0 where
+-- what a step has made sure of when its instruction begins: the own frame lies below the top
+pub record Ready (m : Machine) (f : Frame) : Type 0 where
   pub early : m.counter + 1 < 2 ^ 32
   pub own : f.base ≡ m.base
   pub links : f.base + 4 ≤ f.end
   pub slots : f.end ≤ m.top
-  pub within : m.top ≤ length cells
-  pub few : length cells ≤ 65536
 
 abbrev pub no_room : {A : Type 0} → Result A Halt
 no_room = Err (Stopped NoRoom)

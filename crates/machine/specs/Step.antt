@@ -43,6 +43,10 @@ local ReturnValue f s = returned_value f s
 abbrev pub field_on_top : Frame → State → Result ℕ Halt
 field_on_top f s = bind (holds f 1 s) (λ _. bind (number (under s 1)) (λ z. numbered z))
 
+-- take a field number, push what is answered to it
+abbrev pub asked_for : (ℕ → Result Value Halt) → Frame → State → Result State Halt
+asked_for gives f s = bind (field_on_top f s) (λ field. bind (gives field) (λ v. Ok (replaced 1 v s)))
+
 -- take a field number, push the amount
 abbrev pub amount_asked : Meaning → Frame → State → Result State Halt
 amount_asked m f s =

@@ -1,12 +1,13 @@
 // Marked cells, and what may be taken from them.
-ghost use Rattle.std.specs.Prelude.{◌≡◌};
-ghost use Rattle.machine.specs.Cells.{cell_of, link, present, value, number, truth, values, numbers};
+ghost use Rattle.std.specs.Prelude.{◌≡◌, Ok};
+ghost use Rattle.machine.specs.Cells.{bind, cell_of, link, present, value, number, truth};
 
 use language::faults::{Halt, Trouble};
 use language::values::Value;
+use std::fmt;
 
 // A cell's mark and value.
-#[derive(Clone, Copy)]
+#[derive(Clone, Copy, PartialEq, Eq, Debug)]
 pub enum Cell {
     Unset,
     Number(i32),
@@ -14,24 +15,38 @@ pub enum Cell {
     Link(u32),
 }
 
-impl Cell {
-    // The cell that holds a value.
-    pub(crate) fn of(value: Value) -> Cell
-        ensures { result ≡ cell_of value }
-    {
+// A cell as programs show it.
+impl fmt::Display for Cell {
+    fn fmt<W: fmt::Write>(&self, f: &mut fmt::Formatter<W>) -> fmt::Result {
+        match self {
+            Cell::Unset => f.write_str("unset"),
+            Cell::Number(number) => write!(f, "{number}"),
+            Cell::Truth(truth) => write!(f, "{truth}"),
+            Cell::Link(number) => write!(f, "link:{number}"),
+        }
+    }
+}
+
+// The cell that holds a value.
+impl From<Value> for Cell {
+    ghost from_gives = { λ v c. c ≡ cell_of v };
+
+    fn from(value: Value) -> Cell {
         match value {
             Value::Number(number) => Cell::Number(number),
             Value::Truth(truth) => Cell::Truth(truth),
         }
     }
+}
 
+impl Cell {
     // A link's number.
     pub(crate) fn link(self) -> Result<u32, Halt>
         ensures { result ≡ link self }
     {
         match self {
             Cell::Link(number) => Ok(number),
-            Cell::Unset | Cell::Number(_) | Cell::Truth(_) => Err(Halt::Troubled(Trouble::NoFrame)),
+            _ => Err(Trouble::NoFrame.into()),
         }
     }
 
@@ -40,8 +55,8 @@ impl Cell {
         ensures { result ≡ present self }
     {
         match self {
-            Cell::Unset => Err(Halt::Troubled(Trouble::Unset)),
-            Cell::Number(_) | Cell::Truth(_) | Cell::Link(_) => Ok(()),
+            Cell::Unset => Err(Trouble::Unset.into()),
+            _ => Ok(()),
         }
     }
 
@@ -50,11 +65,19 @@ impl Cell {
         ensures { result ≡ value self }
     {
         match self {
-            Cell::Unset => Err(Halt::Troubled(Trouble::Unset)),
+            Cell::Unset => Err(Trouble::Unset.into()),
             Cell::Number(number) => Ok(Value::Number(number)),
             Cell::Truth(truth) => Ok(Value::Truth(truth)),
-            Cell::Link(_) => Err(Halt::Troubled(Trouble::WrongMark)),
+            Cell::Link(_) => Err(Trouble::WrongMark.into()),
         }
+    }
+
+    // The cell itself, where it holds a value.
+    pub(crate) fn taken(self) -> Result<Cell, Halt>
+        ensures { result ≡ bind (value self) (λ v. Ok (cell_of v)) }
+    {
+        self.value()?;
+        Ok(self)
     }
 
     // What is taken is a number.
@@ -62,38 +85,29 @@ impl Cell {
         ensures { result ≡ number self }
     {
         match self {
-            Cell::Unset => Err(Halt::Troubled(Trouble::Unset)),
+            Cell::Unset => Err(Trouble::Unset.into()),
             Cell::Number(number) => Ok(number),
-            Cell::Truth(_) | Cell::Link(_) => Err(Halt::Troubled(Trouble::WrongMark)),
+            _ => Err(Trouble::WrongMark.into()),
         }
     }
 
     // What is taken is a truth value.
+    // Stays beside the one for numbers: they differ in a pattern and the type that it takes out, which no parameter stands for.
     pub(crate) fn truth(self) -> Result<bool, Halt>
         ensures { result ≡ truth self }
     {
         match self {
-            Cell::Unset => Err(Halt::Troubled(Trouble::Unset)),
+            Cell::Unset => Err(Trouble::Unset.into()),
             Cell::Truth(truth) => Ok(truth),
-            Cell::Number(_) | Cell::Link(_) => Err(Halt::Troubled(Trouble::WrongMark)),
+            _ => Err(Trouble::WrongMark.into()),
         }
     }
 }
 
-// Two values taken at once: that one is unset comes before that one has a wrong mark.
-pub(crate) fn values_of(left: Cell, right: Cell) -> Result<(Value, Value), Halt>
-    ensures { result ≡ values left right }
+// Two cells that are taken from at once: both are set, before any mark is looked at.
+pub(crate) fn both_set(left: Cell, right: Cell) -> Result<(), Halt>
+    ensures { result ≡ bind (present left) (λ _. present right) }
 {
     left.present()?;
-    right.present()?;
-    Ok((left.value()?, right.value()?))
-}
-
-// Two numbers taken at once.
-pub(crate) fn numbers_of(left: Cell, right: Cell) -> Result<(i32, i32), Halt>
-    ensures { result ≡ numbers left right }
-{
-    left.present()?;
-    right.present()?;
-    Ok((left.number()?, right.number()?))
+    right.present()
 }

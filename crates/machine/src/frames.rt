@@ -1,16 +1,30 @@
 // Frames on the cells, and the way along their access links.
 ghost use Rattle.std.specs.Prelude.{◌≡◌, ◌+◌, ◌<◌, ◌≤◌, length, IfOk};
-ghost use Rattle.machine.specs.Frames.{at, frame, hop, outer, slot_in, place};
+ghost use Rattle.machine.specs.Frames.{at, four_links, frame, hop, outer, slot_in, place};
+ghost use Rattle.machine.specs.State.{Ready};
 
 use crate::cells::Cell;
+use crate::context::Context;
 use image::instruction::Slot;
 use language::faults::{Halt, Trouble};
 
 // A frame: its base, and the place above its last slot.
-#[derive(Clone, Copy)]
+// Stays without the fact that its links lie below its end: the definitions make frames of whatever cells hold, and would owe a proof each time.
+#[derive(Clone, Copy, PartialEq, Eq, Debug)]
 pub struct Frame {
     pub base: usize,
     pub end: usize,
+}
+
+// Whether four links stand from a place on; the number of the fourth.
+pub(crate) fn four_links(cells: &[Cell], from: usize) -> Result<u32, Halt>
+    requires { from + 4 ≤ length cells.now }
+    ensures { result ≡ four_links (at cells.now) from }
+{
+    cells[from].link()?;
+    cells[from + 1].link()?;
+    cells[from + 2].link()?;
+    cells[from + 3].link()
 }
 
 impl Frame {
@@ -21,15 +35,12 @@ impl Frame {
         ensures bound { IfOk result (λ f. (f.base ≡ base) × (f.base + 4 ≤ f.end) × (f.end ≤ limit)) }
     {
         if limit < 4 || base > limit - 4 {
-            return Err(Halt::Troubled(Trouble::NoFrame));
+            return Err(Trouble::NoFrame.into());
         }
-        cells[base].link()?;
-        cells[base + 1].link()?;
-        cells[base + 2].link()?;
-        let slots = cells[base + 3].link()?;
+        let slots = four_links(cells, base)?;
         let end = base + 4 + slots as usize;
         if end > limit {
-            return Err(Halt::Troubled(Trouble::NoFrame));
+            return Err(Trouble::NoFrame.into());
         }
         Ok(Frame { base, end })
     }
@@ -65,7 +76,7 @@ impl Frame {
     {
         let index = index as usize;
         if index >= self.end - self.base - 4 {
-            return Err(Halt::Troubled(Trouble::NoFrame));
+            return Err(Trouble::NoFrame.into());
         }
         Ok(self.base + 4 + index)
     }
@@ -78,5 +89,33 @@ impl Frame {
     {
         let frame = self.outer(cells, slot.hops)?;
         frame.slot(slot.index)
+    }
+}
+
+impl Context<'_> {
+    // The own frame, below the top.
+    pub(crate) fn own_frame(&self) -> Result<Frame, Halt>
+        ensures value { result ≡ frame (at self.now.cells.now) self.now.machine.base self.now.machine.top }
+        ensures bound { IfOk result (λ f. (f.base ≡ self.now.machine.base) × (f.base + 4 ≤ f.end) × (f.end ≤ self.now.machine.top)) }
+    {
+        Frame::find(self.cells, self.machine.base, self.machine.top)
+    }
+
+    // The frame that many hops off.
+    pub(crate) fn outer(&self, own: Frame, hops: u32) -> Result<Frame, Halt>
+        requires { Ready self.now.machine own }
+        ensures value { result ≡ outer hops (at self.now.cells.now) own }
+        ensures bound { IfOk result (λ f. (f.base + 4 ≤ f.end) × (f.end ≤ own.end)) }
+    {
+        own.outer(self.cells, hops)
+    }
+
+    // The place of the slot that an instruction names.
+    pub(crate) fn place(&self, own: Frame, slot: Slot) -> Result<usize, Halt>
+        requires { Ready self.now.machine own }
+        ensures value { result ≡ place (at self.now.cells.now) own slot }
+        ensures bound { IfOk result (λ k. k < own.end) }
+    {
+        own.place(self.cells, slot)
     }
 }

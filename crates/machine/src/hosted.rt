@@ -1,12 +1,16 @@
 // The instructions that turn to the host, and those that end a run.
-ghost use Rattle.std.specs.Prelude.{◌≡◌, ◌+◌, ◌≤◌, length, OnOk};
+ghost use Rattle.std.specs.Prelude.{◌≡◌, ℕ, ◌+◌, ◌≤◌, Result, OnOk};
 ghost use Rattle.host.specs.Serves.{numbered};
-ghost use Rattle.machine.specs.State.{Does, Ready, state};
-ghost use Rattle.machine.specs.Step.{LeftPosted, field_on_top, amount_asked, flag_asked, posted, ends_void, ends_with, end_value};
+ghost use Rattle.language.specs.declared.faults.Halt.{Halt};
+ghost use Rattle.language.specs.declared.values.Value.{Value};
+ghost use Rattle.machine.specs.Contexts.{SameCells, state_of};
+ghost use Rattle.machine.specs.State.{Does, Ready};
+ghost use Rattle.machine.specs.Step.{LeftPosted, field_on_top, asked_for, posted, ends_void, ends_with, end_value};
 
-use crate::cells::{Cell, numbers_of};
+use crate::cells::both_set;
+use crate::context::Context;
 use crate::frames::Frame;
-use crate::registers::{Flow, Machine};
+use crate::registers::Flow;
 use host::Host;
 use language::faults::{Halt, Stop, Trouble};
 use language::values::{Value, ValueType};
@@ -15,125 +19,84 @@ use language::values::{Value, ValueType};
 fn numbered_of(number: i32) -> Result<u8, Halt>
     ensures { result ≡ numbered number }
 {
-    if number < 0 || number > 255 {
-        return Err(Halt::Stopped(Stop::NoSuchNumber));
-    }
-    Ok(number as u8)
+    u8::try_from(number).map_err(|_| Stop::NoSuchNumber.into())
 }
 
-impl Machine {
+impl Context<'_> {
     // The field number on top.
-    fn field(&self, cells: &[Cell], frame: Frame) -> Result<u8, Halt>
-        requires { Ready self.now frame cells.now }
-        ensures value { result ≡ field_on_top frame (state self.now cells.now) }
-        ensures room { OnOk result (frame.end + 1 ≤ self.now.top) }
+    fn field(&self, frame: Frame) -> Result<u8, Halt>
+        requires { Ready self.now.machine frame }
+        ensures value { result ≡ field_on_top frame (state_of self.now) }
+        ensures room { OnOk result (frame.end + 1 ≤ self.now.machine.top) }
     {
-        if self.top - frame.end < 1 {
-            return Err(Halt::Troubled(Trouble::NoFrame));
-        }
-        numbered_of(cells[self.top - 1].number()?)
+        self.holds(frame, 1)?;
+        numbered_of(self.cells[self.machine.top - 1].number()?)
     }
 
-    // Takes a field number and pushes the amount.
-    pub(crate) fn amount<H: Host>(
+    // Takes a field number and pushes what is answered to it.
+    pub(crate) fn ask<F: FnOnce(u8) -> Result<Value, Halt>>(
         &mut self,
-        cells: &mut [Cell],
         frame: Frame,
-        host: &H,
+        answer: F,
     ) -> Result<Flow, Halt>
-        requires { Ready self.old frame cells.old }
-        ensures state { Does (amount_asked (H.means host.now) frame) self.old cells.old result self.new cells.new }
-        ensures bound { self.new.top ≤ length cells.new }
+        requires ready { Ready self.old.machine frame }
+        requires may { F.IsAlwaysCallable answer }
+        ensures state { (gives : ℕ → Result Value Halt) → ((field : ℕ) (r : Result Value Halt) → F.post answer field r → r ≡ gives field) → Does (asked_for gives frame) self.old.machine self.old.cells.now result self.new.machine self.new.cells.now }
+        ensures same { SameCells self.old self.new }
     {
-        let field = self.field(cells, frame)?;
-        let amount = host.amount(field)?;
-        cells[self.top - 1] = Cell::Number(amount);
-        self.counter += 1;
-        Ok(Flow::Next)
-    }
-
-    // Takes a field number and pushes the flag.
-    pub(crate) fn flag<H: Host>(
-        &mut self,
-        cells: &mut [Cell],
-        frame: Frame,
-        host: &H,
-    ) -> Result<Flow, Halt>
-        requires { Ready self.old frame cells.old }
-        ensures state { Does (flag_asked (H.means host.now) frame) self.old cells.old result self.new cells.new }
-        ensures bound { self.new.top ≤ length cells.new }
-    {
-        let field = self.field(cells, frame)?;
-        let flag = host.flag(field)?;
-        cells[self.top - 1] = Cell::Truth(flag);
-        self.counter += 1;
+        let field = self.field(frame)?;
+        let value = answer(field)?;
+        self.cells[self.machine.top - 1] = value.into();
+        self.machine.counter += 1;
         Ok(Flow::Next)
     }
 
     // Takes a value, then an account, and posts.
-    pub(crate) fn post<H: Host>(
-        &mut self,
-        cells: &[Cell],
-        frame: Frame,
-        host: &mut H,
-    ) -> Result<Flow, Halt>
-        requires { Ready self.old frame cells.now }
-        ensures state { LeftPosted (posted (H.means host.old) frame (state self.old cells.now)) result (state self.old cells.now) (H.means host.old) self.new cells.now (H.means host.new) }
-        ensures bound { self.new.top ≤ length cells.now }
+    pub(crate) fn post<H: Host>(&mut self, frame: Frame, host: &mut H) -> Result<Flow, Halt>
+        requires { Ready self.old.machine frame }
+        ensures state { LeftPosted (posted (H.means host.old) frame (state_of self.old)) result (state_of self.old) (H.means host.old) self.new.machine self.new.cells.now (H.means host.new) }
+        ensures same { SameCells self.old self.new }
     {
-        if self.top - frame.end < 2 {
-            return Err(Halt::Troubled(Trouble::NoFrame));
-        }
-        let (account, value) = numbers_of(cells[self.top - 2], cells[self.top - 1])?;
+        self.holds(frame, 2)?;
+        let account = self.cells[self.machine.top - 2];
+        let value = self.cells[self.machine.top - 1];
+        both_set(account, value)?;
+        let (account, value) = (account.number()?, value.number()?);
         let account = numbered_of(account)?;
         host.post(account, value)?;
-        self.top -= 2;
-        self.counter += 1;
+        self.machine.top -= 2;
+        self.machine.counter += 1;
         Ok(Flow::Next)
     }
 }
 
 // Whether a run may end with nothing.
-pub(crate) fn end_void(res: ValueType) -> Result<(), Halt>
-    ensures { result ≡ ends_void res }
+pub(crate) fn end_void(expected: ValueType) -> Result<(), Halt>
+    ensures { result ≡ ends_void expected }
 {
-    match res {
-        ValueType::Void => Ok(()),
-        ValueType::Int | ValueType::Bool => Err(Halt::Troubled(Trouble::WrongMark)),
+    if expected != ValueType::Void {
+        return Err(Trouble::WrongMark.into());
     }
+    Ok(())
 }
 
 // The value, where a run may end with it.
-fn end_with(res: ValueType, value: Value) -> Result<Value, Halt>
-    ensures { result ≡ ends_with res value }
+fn end_with(expected: ValueType, value: Value) -> Result<Value, Halt>
+    ensures { result ≡ ends_with expected value }
 {
-    match res {
-        ValueType::Void => Err(Halt::Troubled(Trouble::WrongMark)),
-        ValueType::Int => match value {
-            Value::Number(_) => Ok(value),
-            Value::Truth(_) => Err(Halt::Troubled(Trouble::WrongMark)),
-        },
-        ValueType::Bool => match value {
-            Value::Number(_) => Err(Halt::Troubled(Trouble::WrongMark)),
-            Value::Truth(_) => Ok(value),
-        },
+    match (expected, value) {
+        (ValueType::Int, Value::Number(_)) | (ValueType::Bool, Value::Truth(_)) => Ok(value),
+        _ => Err(Trouble::WrongMark.into()),
     }
 }
 
-impl Machine {
+impl Context<'_> {
     // The value that the run ends with.
-    pub(crate) fn end_value(
-        &self,
-        cells: &[Cell],
-        frame: Frame,
-        res: ValueType,
-    ) -> Result<Value, Halt>
-        requires { Ready self.now frame cells.now }
-        ensures { result ≡ end_value res frame (state self.now cells.now) }
+    pub(crate) fn end_value(&self, frame: Frame, expected: ValueType) -> Result<Value, Halt>
+        requires { Ready self.now.machine frame }
+        ensures { result ≡ end_value expected frame (state_of self.now) }
     {
-        if self.top - frame.end < 1 {
-            return Err(Halt::Troubled(Trouble::NoFrame));
-        }
-        end_with(res, cells[self.top - 1].value()?)
+        self.holds(frame, 1)?;
+        end_with(expected, self.cells[self.machine.top - 1].value()?)
     }
 }

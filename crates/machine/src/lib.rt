@@ -4,6 +4,7 @@
 pub mod begin;
 pub mod calls;
 pub mod cells;
+pub mod context;
 pub mod frames;
 pub mod hosted;
 pub mod local;

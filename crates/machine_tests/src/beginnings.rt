@@ -57,9 +57,7 @@ const BEGUN: &[(u32, &[Cell])] = &[
 const REFUSED: &[(u32, usize)] = &[(0, 0), (0, 3), (1, 4), (4, 7), (255, 8), (4294967295, 8)];
 
 fn begins(others: u32, cells: &mut [Cell], expected: &[Cell]) -> Result<(), Difference> {
-    let Ok(machine) = Machine::begin(others, cells) else {
-        return Err(UNFIT);
-    };
+    let machine = Machine::begin(others, cells).map_err(|_| UNFIT)?;
     let begun = Machine {
         counter: 1,
         base: 0,
@@ -86,7 +84,7 @@ fn refuses(others: u32, cells: &mut [Cell], kept: &[Cell]) -> Result<(), Differe
     let Err(refusal) = Machine::begin(others, cells) else {
         return Err(UNFIT);
     };
-    same("refusal", 32, Cause::Begin(refusal).number() as i128)?;
+    same("refusal", 32, i128::from(Cause::Begin(refusal).number()))?;
     same_cells(kept, cells)
 }
 

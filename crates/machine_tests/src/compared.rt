@@ -6,7 +6,7 @@ use machine::cells::Cell;
 use machine::registers::{Flow, Machine, Outcome};
 
 // Two numbers that should be the same, the code that was tried, the part that they tell of, and its cell, if it is one.
-#[derive(Clone, Copy, Debug)]
+#[derive(Clone, Copy, PartialEq, Eq, Debug)]
 pub struct Difference {
     pub code: u32,
     pub part: &'static str,
@@ -16,7 +16,7 @@ pub struct Difference {
 }
 
 // A difference in a table: the group and the row, numbered from 0.
-#[derive(Clone, Copy, Debug)]
+#[derive(Clone, Copy, PartialEq, Eq, Debug)]
 pub struct Mismatch {
     pub group: usize,
     pub row: usize,
@@ -24,7 +24,8 @@ pub struct Mismatch {
 }
 
 // What a step comes to.
-#[derive(Clone, Copy)]
+// Stays an enum of its own, and so does how a run stands: the rows of the tests were written down in their words, with the numbers of halts.
+#[derive(Clone, Copy, PartialEq, Eq, Debug)]
 pub enum End {
     Next,
     Nothing,
@@ -42,25 +43,15 @@ pub const UNFIT: Difference = Difference {
 };
 
 pub fn in_row(group: usize, row: usize, outcome: Result<(), Difference>) -> Result<(), Mismatch> {
-    match outcome {
-        Ok(()) => Ok(()),
-        Err(difference) => Err(Mismatch {
-            group,
-            row,
-            difference,
-        }),
-    }
+    outcome.map_err(|difference| Mismatch {
+        group,
+        row,
+        difference,
+    })
 }
 
 pub fn at_code(code: u32, outcome: Result<(), Difference>) -> Result<(), Difference> {
-    match outcome {
-        Ok(()) => Ok(()),
-        Err(difference) => {
-            let mut told = difference;
-            told.code = code;
-            Err(told)
-        }
-    }
+    outcome.map_err(|difference| Difference { code, ..difference })
 }
 
 pub fn same(part: &'static str, expected: i128, seen: i128) -> Result<(), Difference> {
@@ -76,24 +67,21 @@ pub fn same(part: &'static str, expected: i128, seen: i128) -> Result<(), Differ
     })
 }
 
-fn truth_number(truth: bool) -> i128 {
-    if truth { 1 } else { 0 }
-}
-
 // A value's mark and number.
+// Stays in numbers: a test of the tests names which of the two differs, and keeps those names.
 fn value_numbers(value: Value) -> (i128, i128) {
     match value {
-        Value::Number(number) => (1, number as i128),
-        Value::Truth(truth) => (2, truth_number(truth)),
+        Value::Number(number) => (1, i128::from(number)),
+        Value::Truth(truth) => (2, i128::from(truth)),
     }
 }
 
 fn cell_numbers(cell: Cell) -> (i128, i128) {
     match cell {
         Cell::Unset => (0, 0),
-        Cell::Number(number) => (1, number as i128),
-        Cell::Truth(truth) => (2, truth_number(truth)),
-        Cell::Link(link) => (3, link as i128),
+        Cell::Number(number) => (1, i128::from(number)),
+        Cell::Truth(truth) => (2, i128::from(truth)),
+        Cell::Link(link) => (3, i128::from(link)),
     }
 }
 
@@ -103,14 +91,10 @@ pub fn halt_number(halt: Halt) -> u8 {
 
 pub fn end_of(flow: Result<Flow, Halt>) -> End {
     match flow {
+        Ok(Flow::Next) => End::Next,
+        Ok(Flow::Ended(None)) => End::Nothing,
+        Ok(Flow::Ended(Some(value))) => End::With(value),
         Err(halt) => End::Halt(halt_number(halt)),
-        Ok(flow) => match flow {
-            Flow::Next => End::Next,
-            Flow::Ended(value) => match value {
-                None => End::Nothing,
-                Some(value) => End::With(value),
-            },
-        },
     }
 }
 
@@ -123,7 +107,7 @@ fn end_numbers(end: End) -> (i128, i128, i128) {
             let (mark, number) = value_numbers(value);
             (1, mark, number)
         }
-        End::Halt(number) => (2, 0, number as i128),
+        End::Halt(number) => (2, 0, i128::from(number)),
     }
 }
 
@@ -136,7 +120,7 @@ pub fn same_end(expected: End, seen: End) -> Result<(), Difference> {
 }
 
 // How a run stands, with the place of a halt.
-#[derive(Clone, Copy)]
+#[derive(Clone, Copy, PartialEq, Eq, Debug)]
 pub enum Stands {
     Paused,
     Ended(End),
@@ -146,10 +130,8 @@ pub enum Stands {
 pub fn stands_of(outcome: Outcome) -> Stands {
     match outcome {
         Outcome::Paused => Stands::Paused,
-        Outcome::Finished(value) => match value {
-            None => Stands::Ended(End::Nothing),
-            Some(value) => Stands::Ended(End::With(value)),
-        },
+        Outcome::Finished(None) => Stands::Ended(End::Nothing),
+        Outcome::Finished(Some(value)) => Stands::Ended(End::With(value)),
         Outcome::Halted(halt, place) => Stands::Halted(halt_number(halt), place),
     }
 }
@@ -159,7 +141,7 @@ fn stands_numbers(stands: Stands) -> (End, i128) {
     match stands {
         Stands::Paused => (End::Next, -1),
         Stands::Ended(end) => (end, -1),
-        Stands::Halted(number, place) => (End::Halt(number), place as i128),
+        Stands::Halted(number, place) => (End::Halt(number), i128::from(place)),
     }
 }
 
@@ -171,7 +153,11 @@ pub fn same_stands(expected: Stands, seen: Stands) -> Result<(), Difference> {
 }
 
 pub fn same_machine(expected: Machine, seen: Machine) -> Result<(), Difference> {
-    same("counter", expected.counter as i128, seen.counter as i128)?;
+    same(
+        "counter",
+        i128::from(expected.counter),
+        i128::from(seen.counter),
+    )?;
     same("base", expected.base as i128, seen.base as i128)?;
     same("top", expected.top as i128, seen.top as i128)
 }
@@ -203,24 +189,29 @@ fn same_cell(cell: usize, expected: Cell, seen: Cell) -> Result<(), Difference> 
 // All cells, those above the top too.
 pub fn same_cells(expected: &[Cell], seen: &[Cell]) -> Result<(), Difference> {
     same("cells", expected.len() as i128, seen.len() as i128)?;
-    for (cell, (expected, seen)) in expected.iter().zip(seen.iter()).enumerate() {
+    for (cell, (expected, seen)) in expected.iter().zip(seen).enumerate() {
         same_cell(cell, *expected, *seen)?;
     }
     Ok(())
 }
 
 fn posted_numbers(posted: Option<i32>) -> (i128, i128) {
-    match posted {
-        None => (0, 0),
-        Some(number) => (1, number as i128),
-    }
+    posted.map_or((0, 0), |number| (1, i128::from(number)))
 }
 
 pub fn same_host(expected: OneLine, seen: OneLine) -> Result<(), Difference> {
-    same("field", expected.field as i128, seen.field as i128)?;
-    same("amount", expected.amount as i128, seen.amount as i128)?;
-    same("flag", truth_number(expected.flag), truth_number(seen.flag))?;
-    same("account", expected.account as i128, seen.account as i128)?;
+    same("field", i128::from(expected.field), i128::from(seen.field))?;
+    same(
+        "amount",
+        i128::from(expected.amount),
+        i128::from(seen.amount),
+    )?;
+    same("flag", i128::from(expected.flag), i128::from(seen.flag))?;
+    same(
+        "account",
+        i128::from(expected.account),
+        i128::from(seen.account),
+    )?;
     let (postings, total) = posted_numbers(expected.posted);
     let (seen_postings, seen_total) = posted_numbers(seen.posted);
     same("postings", postings, seen_postings)?;

@@ -10,10 +10,7 @@ use machine::cells::Cell::{Link, Number, Truth, Unset};
 
 // Whether this part was found to differ.
 fn notices(part: &str, outcome: Result<(), Mismatch>) -> bool {
-    match outcome {
-        Ok(()) => false,
-        Err(mismatch) => mismatch.difference.part == part,
-    }
+    outcome.is_err_and(|mismatch| mismatch.difference.part == part)
 }
 
 const GOING: &[(&str, &[GoingGroup])] = &[

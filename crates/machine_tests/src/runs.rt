@@ -5,13 +5,15 @@ use crate::compared::{
 };
 use crate::steps::{HOST, put};
 use host::one_line::OneLine;
+use image::fetch::Image;
 use image::instruction::Header;
 use language::values::ValueType;
 use machine::cells::Cell;
+use machine::context::Context;
 use machine::registers::{Machine, Outcome, Ran};
 
 // A run under way.
-#[derive(Clone, Copy)]
+#[derive(Clone, Copy, PartialEq, Eq, Debug)]
 struct Running {
     header: Header,
     machine: Machine,
@@ -27,22 +29,18 @@ fn read(words: &[u32]) -> Result<(Header, u32), Difference> {
     if count < 1 || (words.len() - 2) / 2 < count as usize {
         return Err(UNFIT);
     }
-    let Some(result) = ValueType::from_number(words[1]) else {
-        return Err(UNFIT);
-    };
+    let result = ValueType::try_from(words[1]).map_err(|_| UNFIT)?;
     Ok((Header { count, result }, words[2 + count as usize] % 256))
 }
 
 fn begin(words: &[u32], cells: &mut [Cell], host: OneLine) -> Result<Running, Difference> {
     let (header, others) = read(words)?;
-    match Machine::begin(others, cells) {
-        Err(_) => Err(UNFIT),
-        Ok(machine) => Ok(Running {
-            header,
-            machine,
-            host,
-        }),
-    }
+    let machine = Machine::begin(others, cells).map_err(|_| UNFIT)?;
+    Ok(Running {
+        header,
+        machine,
+        host,
+    })
 }
 
 // Goes on with an allowance, where the machine's needs are met.
@@ -56,19 +54,21 @@ fn go(
     if words.len() < 2 || (words.len() - 2) / 2 < header.count as usize {
         return Err(UNFIT);
     }
-    let mut machine = running.machine;
+    let machine = running.machine;
     let mut host = running.host;
     if machine.top > cells.len() || cells.len() > 65_536 {
         return Err(UNFIT);
     }
-    let ran = machine.run(words, header, cells, &mut host, allowance);
-    running.machine = machine;
+    let image = Image { words, header };
+    let mut context = Context { machine, cells };
+    let ran = context.run(image, &mut host, allowance);
+    running.machine = context.machine;
     running.host = host;
     Ok(ran)
 }
 
 fn same_ran(steps: u32, stands: Stands, ran: Ran) -> Result<(), Difference> {
-    same("steps", steps as i128, ran.steps as i128)?;
+    same("steps", i128::from(steps), i128::from(ran.steps))?;
     same_stands(stands, stands_of(ran.outcome))
 }
 
@@ -114,16 +114,13 @@ fn go_in_pieces(
         let none = go(running, words, cells, 0)?;
         same_ran(0, Stands::Paused, none)?;
         same_machine(machine, running.machine)?;
-        let next = if piece < left { piece } else { left };
+        let next = piece.min(left);
         left -= next;
         let ran = go(running, words, cells, next)?;
         steps = steps.saturating_add(ran.steps);
         match ran.outcome {
-            Outcome::Paused => same("steps of a piece", next as i128, ran.steps as i128)?,
-            Outcome::Finished(_) | Outcome::Halted(_, _) => return Ok(Ran {
-                steps,
-                outcome: ran.outcome,
-            }),
+            Outcome::Paused => same("steps of a piece", i128::from(next), i128::from(ran.steps))?,
+            Outcome::Finished(_) | Outcome::Halted(_, _) => return Ok(Ran { steps, ..ran }),
         }
     }
     Ok(Ran {
@@ -175,7 +172,7 @@ pub fn run_all_in_pieces(programs: &[Program]) -> Result<(), Mismatch> {
 }
 
 // A run of several pieces, and everything that it leaves.
-#[derive(Clone, Copy)]
+#[derive(Clone, Copy, PartialEq, Eq, Debug)]
 pub struct Script {
     pub words: &'static [u32],
     pub cells: &'static [Cell],

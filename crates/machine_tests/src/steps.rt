@@ -4,14 +4,16 @@ use crate::compared::{
     same_machine,
 };
 use host::one_line::OneLine;
+use image::fetch;
 use image::instruction::Header;
 use language::faults::Halt;
 use language::values::ValueType;
 use machine::cells::Cell;
+use machine::context::Context;
 use machine::registers::{Flow, Machine};
 
 // Where a step is made: the cells above the top, where a row gives working values only, and the host.
-#[derive(Clone, Copy)]
+#[derive(Clone, Copy, PartialEq, Eq, Debug)]
 pub struct Ground {
     pub above: &'static [Cell],
     pub host: OneLine,
@@ -49,7 +51,7 @@ pub const FULL: Ground = Ground {
 };
 
 // A ground and an image.
-#[derive(Clone, Copy)]
+#[derive(Clone, Copy, PartialEq, Eq, Debug)]
 pub struct Setting {
     counter: u32,
     result: ValueType,
@@ -114,7 +116,7 @@ pub type StuckGroup = (&'static [Ground], &'static [Image], &'static [Stuck]);
 pub type MovingGroup = (&'static [Ground], &'static [Image], &'static [Moving]);
 
 // Machine, cells and host.
-#[derive(Clone, Copy)]
+#[derive(Clone, Copy, PartialEq, Eq, Debug)]
 struct Scene<'a> {
     machine: Machine,
     cells: &'a [Cell],
@@ -134,12 +136,9 @@ const FRAME: [Cell; 5] = [
 
 // Writes a row of cells from a place on, as far as it reaches.
 pub fn put(cells: &mut [Cell], from: usize, row: &[Cell]) {
-    if from > cells.len() {
-        return;
-    }
-    for k in 0..row.len() {
-        if k < cells.len() - from {
-            cells[from + k] = row[k];
+    if let Some(rest) = cells.get_mut(from..) {
+        for (cell, written) in rest.iter_mut().zip(row) {
+            *cell = *written;
         }
     }
 }
@@ -158,7 +157,14 @@ fn step_once(
     if machine.top > cells.len() || cells.len() > 65_536 {
         return Err(UNFIT);
     }
-    Ok(machine.step(words, header, cells, host))
+    let image = fetch::Image { words, header };
+    let mut context = Context {
+        machine: *machine,
+        cells,
+    };
+    let flow = context.step(image, host);
+    *machine = context.machine;
+    Ok(flow)
 }
 
 // Steps once on these cells, and compares the end and everything that is left.
@@ -180,6 +186,7 @@ fn compares(
 }
 
 // Lays the image and a copy of the cells, and steps once.
+// Stays with a setting, a code and its operand one by one: rows of the tests give the last two, and share the first.
 fn leads(
     setting: Setting,
     code: u32,
@@ -193,7 +200,7 @@ fn leads(
         return Err(UNFIT);
     }
     let result = setting.result;
-    let kind = result.number();
+    let kind = u32::from(result);
     let words = [4, kind, 22, code, 22, 27, 0, operand, setting.entry, 0];
     let header = Header { count: 4, result };
     let mut space = [Cell::Unset; SPACE];
