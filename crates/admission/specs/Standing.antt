@@ -1,35 +1,27 @@
--- What the code's name list, scope and frame stand for. Assumes nothing.
-use Rattle.std.specs.Prelude.{◌≡◌, ◌≤◌, List, length, take, Ok, Err, Result}
+-- What the names in open scopes and the innermost scope stand for. Assumes nothing.
+use Rattle.std.specs.Prelude.{◌≡◌, ◌≤◌, List, take, Ok, Err, Result}
 use Rattle.language.specs.declared.faults.Fault.{Fault}
 use Rattle.table.specs.declared.nodes.Node.{Node}
-use Rattle.walk.specs.declared.names.Entry.{Entry}
 use Rattle.walk.specs.Known.{seen}
 use Rattle.walk.specs.Programs.{Scope as Walked}
-use Rattle.admission.specs.declared.scopes.Scope.{Scope}
-use Rattle.admission.specs.declared.scopes.Frame.{Frame}
+use Rattle.admission.specs.declared.scopes.Names.{Names}
 
 -- the names below the height, with the innermost scope's frame
-abbrev pub scope_of : List Node → List Entry → Scope → Frame → Walked
-scope_of table entries s f = record {
-  env = seen table (take s.height entries) s.level;
-  floor = f.floor;
-  slots = f.slots;
-  flags = f.flags.set;
+abbrev pub scope_of : List Node → Names → Walked
+scope_of table names = record {
+  env = seen table (take names.scope.height names.entries) names.scope.level;
+  floor = names.scope.floor;
+  slots = names.scope.slots;
+  flags = names.scope.flags.set;
 }
 
--- the name list has 255 places, the height is at most that, and no frame has more slots than there are names
-pub record Ready (entries : List Entry) (s : Scope) (f : Frame) : Type 0 where
-  pub whole : length entries ≡ 255
-  pub few : s.height ≤ 255
-  pub slots : f.slots ≤ s.height
-
 -- what came out is the walk's answer
-abbrev pub GaveScope : List Node → Result Frame Fault → List Entry → Scope → Result Walked Fault → Type 0
-GaveScope table (Ok f) entries s answer = answer ≡ Ok (scope_of table entries s f)
-GaveScope table (Err e) entries s answer = answer ≡ Err e
+abbrev pub GaveScope : {A : Type 0} → List Node → Result A Fault → Names → Result Walked Fault → Type 0
+GaveScope table (Ok a) names answer = answer ≡ Ok (scope_of table names)
+GaveScope table (Err e) names answer = answer ≡ Err e
 
 -- where nothing is refused, names and slots were only added
-abbrev pub Widened : Result Frame Fault → Frame → List Entry → Scope → List Entry → Scope → Type 0
-Widened (Ok g) f entries s entries' s' =
-    (s.height ≤ s'.height) × Ready entries' s' g × (s'.level ≡ s.level) × (take s.height entries' ≡ take s.height entries) × (f.slots ≤ g.slots)
-Widened (Err e) f entries s entries' s' = Unit {0}
+abbrev pub Widened : {A : Type 0} → Result A Fault → Names → Names → Type 0
+Widened (Ok a) before after =
+    (before.scope.height ≤ after.scope.height) × (after.scope.level ≡ before.scope.level) × (take before.scope.height after.entries ≡ take before.scope.height before.entries) × (before.scope.slots ≤ after.scope.slots)
+Widened (Err e) before after = Unit {0}

@@ -1,13 +1,17 @@
 // The verdict on a table: whether its form is a tree's, then the walk over that tree.
 ghost use Rattle.std.specs.Prelude.{◌≡◌, length, take};
 ghost use Rattle.table.specs.Answers.{Sized};
+ghost use Rattle.walk.specs.Lay.{count};
+ghost use Rattle.walk.specs.Sets.{none_set};
 ghost use Rattle.admission.specs.Judged.{Judged, verdict_of, BareWhereRefused};
 ghost use Rattle.admission.specs.Walks.{host_entries, HasProgram, GaveProgram};
 
-use crate::declaring::{gives, inside};
+use crate::declaring::gives;
 use crate::entering::MOST_NAMES;
-use crate::scopes::{Frame, Scope};
+use crate::scopes::{Names, Scope};
+use crate::tables::Table;
 use language::faults::Fault;
+use language::opcodes::Opcode;
 use language::values::ValueType;
 use table::checking::check;
 use table::nodes::Node;
@@ -15,49 +19,52 @@ use walk::codes::Code;
 use walk::flags::Flags;
 use walk::names::{Entry, What};
 
-// The name list at first: the host's three, each at level 0.
-fn host_names() -> [Entry; MOST_NAMES]
-    ensures whole { length result ≡ 255 }
-    ensures names { take 3 result ≡ host_entries }
+// An entry of one of the host's three.
+fn host_entry(name: u32, what: What) -> Entry
+    ensures { result ≡ record { name = name; level = 0; what = what } }
 {
-    let amount = Entry {
-        name: 0,
+    Entry {
+        name,
         level: 0,
-        what: What::Amount,
-    };
-    let mut names = [amount; MOST_NAMES];
-    names[1] = Entry {
-        name: 1,
-        level: 0,
-        what: What::Flag,
-    };
-    names[2] = Entry {
-        name: 2,
-        level: 0,
-        what: What::Post,
-    };
-    names
+        what,
+    }
+}
+
+impl Names {
+    // The names at first: the host's three, each at level 0, outside the program's scope.
+    fn hosts() -> Names
+        ensures entries { take 3 result.entries ≡ host_entries }
+        ensures height { result.scope.height ≡ 3 }
+        ensures level { result.scope.level ≡ 0 }
+        ensures floor { result.scope.floor ≡ 3 }
+        ensures slots { result.scope.slots ≡ 0 }
+        ensures flags { result.scope.flags.set ≡ none_set }
+    {
+        let mut entries = [host_entry(0, What::Amount); MOST_NAMES];
+        entries[1] = host_entry(1, What::Flag);
+        entries[2] = host_entry(2, What::Post);
+        let scope = Scope {
+            height: 3,
+            level: 0,
+            floor: 3,
+            slots: 0,
+            flags: Flags::none(),
+        };
+        Names { entries, scope }
+    }
 }
 
 // A program: the host's three names, its inside, and an end.
 fn program(nodes: &[Node], code: &mut Code) -> Result<ValueType, Fault>
     requires sized { Sized nodes.now }
-    requires bare { code.old.len ≡ 0 }
+    requires bare { count code.old ≡ 0 }
     requires tree { HasProgram nodes.now }
     ensures { GaveProgram nodes.now result code.new }
 {
-    let mut names = host_names();
-    let mut scope = Scope {
-        height: 3,
-        level: 0,
-    };
-    let frame = Frame {
-        floor: 3,
-        slots: 0,
-        flags: Flags::none(),
-    };
-    let result = inside(nodes, &mut names, &mut scope, &frame, code, 1, nodes.len())?;
-    code.emit(27, gives(result));
+    let mut names = Names::hosts();
+    let table = Table { nodes };
+    let result = table.inside(&mut names, code, 1, nodes.len())?;
+    code.lay(Opcode::End, gives(result));
     Ok(result)
 }
 
@@ -68,11 +75,9 @@ pub fn decide(nodes: &[Node], code: &mut Code) -> Result<ValueType, Fault>
 {
     code.clear();
     check(nodes)?;
-    match program(nodes, code) {
-        Ok(result) => Ok(result),
-        Err(fault) => {
-            code.clear();
-            Err(fault)
-        }
+    let typed = program(nodes, code);
+    if typed.is_err() {
+        code.clear();
     }
+    typed
 }

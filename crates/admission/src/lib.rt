@@ -4,4 +4,5 @@
 pub mod deciding;
 pub mod declaring;
 pub mod entering;
-pub mod scopes;
+pub(crate) mod scopes;
+pub(crate) mod tables;

@@ -1,11 +1,8 @@
 -- The exits of the walk's functions. Assumes nothing.
-use Rattle.std.proofs.Common.{◌≡◌, ℕ, ◌+◌, ◌*◌, ◌<◌, ◌≤◌, Bool, true, false, List, length, Some, Ok, Err, Option, Result, sym, refl, ap, ◌∙◌, subst, arith}
-use Rattle.std.proofs.lemmas.Bool.{false≢true}
+use Rattle.std.proofs.Common.{◌≡◌, ℕ, ◌+◌, ◌*◌, ◌<◌, ◌≤◌, Bool, List, length, Some, Ok, Err, Option, Result, sym, ap, ◌∙◌, subst, arith}
 use Rattle.language.specs.declared.faults.Fault.{Fault}
 use Rattle.language.specs.declared.values.ValueType.{ValueType}
 use Rattle.table.specs.declared.kinds.Kind.{Kind}
-use Rattle.table.specs.declared.kinds.Class.{Class}
-use Rattle.table.specs.declared.kinds.Class.TheVariants as classes
 use Rattle.table.specs.declared.nodes.Node.{Node}
 use Rattle.table.specs.Kinds.{kind_at}
 use Rattle.table.specs.Listed.{node_at, end_at}
@@ -22,7 +19,6 @@ use Rattle.walk.specs.Bind.{bind, beside}
 use Rattle.walk.specs.Lay.{live}
 use Rattle.walk.specs.Scopes.{Env}
 use Rattle.walk.specs.Types.{Tallied}
-use Rattle.walk.specs.Known.{is_statement}
 use Rattle.walk.specs.Expressions.{calling, walk_statement}
 use Rattle.walk.specs.Walked.{Gave, Grew, GrewCall, GrewOne}
 
@@ -54,20 +50,6 @@ grew-judged (Err e) table before after i end g h k l = tt
 -- the kind that the code has decided
 pub decided : (table : List Node) (i : ℕ) {n : Node} {o : Option Kind} {j : Kind} {k : Kind} → n ≡ node_at table i → o ≡ kind_at n.kind → o ≡ Some j → j ≡ k → kind_at (node_at table i).kind ≡ Some k
 decided table i a b d e = ap (λ n. kind_at n.kind) (sym a) ∙ sym b ∙ d ∙ ap Some e
-
--- a node is a statement where its class says so
-pub is-statement : (c : Class) → is_statement c ≡ true → c ≡ classes.Statement
-is-statement classes.Declaration e = absurd (false≢true e)
-is-statement classes.Parameter e = absurd (false≢true e)
-is-statement classes.Body e = absurd (false≢true e)
-is-statement classes.Statement e = refl
-is-statement classes.Block e = absurd (false≢true e)
-is-statement classes.Expression e = absurd (false≢true e)
-is-statement classes.ValueBlock e = absurd (false≢true e)
-is-statement classes.Other e = absurd (false≢true e)
-
-pub no-statement : (c : Class) → is_statement c ≡ false → c ≡ classes.Statement → ⊥
-no-statement c e h = false≢true (sym e ∙ ap is_statement h)
 
 -- a block and a value block, in their parts
 pub block_at : (table : List Node) (i : ℕ) (b : Block) → Lays (of_block b) table i → (p : ℕ) × (s : Statement) × (ss : Statements) × (b ≡ block p s ss) × Lays (of_block (block p s ss)) table i

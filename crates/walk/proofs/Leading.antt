@@ -1,6 +1,6 @@
 -- The parameters that a row of nodes begins with. Assumes nothing.
-use Rattle.std.proofs.Common.{◌≡◌, ℕ, ◌+◌, ◌<◌, ◌≤◌, true, false, cond, List, [], ◌∷◌, length, drop, ap, ◌∙◌}
-use Rattle.std.proofs.lemmas.List.{drop_more, drop_all}
+use Rattle.std.proofs.Common.{◌≡◌, ℕ, ◌+◌, ◌<◌, true, false, cond, List, [], ◌∷◌, length, drop, ap, ◌∙◌}
+use Rattle.std.proofs.lemmas.List.{drop_more}
 use Rattle.table.specs.declared.nodes.Node.{Node}
 use Rattle.table.specs.Kinds.{kind_at, class_or}
 use Rattle.table.specs.Listed.{node_at, blank}
@@ -16,6 +16,3 @@ module _ (table : List Node) (k : ℕ) where
   leading-other h e =
       ap leading (drop_more table k blank h) ∙
       ap (λ b. cond b (type_or (node_at table k).sub ∷ leading (drop (k + 1) table)) []) e
-
-  pub leading-past : length table ≤ k → leading (drop k table) ≡ []
-  leading-past h = ap leading (drop_all k table h)

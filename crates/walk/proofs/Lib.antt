@@ -1,8 +1,6 @@
-pub mod Live
 pub mod Found
 pub mod Joined
 pub mod Leading
 pub mod Along
 pub mod Exits
-pub mod Apart
 pub mod Seen

@@ -1,10 +1,8 @@
 -- What the code's entries, parameters and tallies stand for over a table. Assumes nothing.
 use Rattle.std.specs.Prelude.{◌≡◌, ℕ, ◌+◌, ◌<◌, ◌≤◌, Bool, true, false, cond, List, [], ◌∷◌, map, drop, Some, None, Ok, Err, Option, Result, slice_index_or}
 use Rattle.language.specs.declared.faults.Fault.{Fault}
-use Rattle.language.specs.declared.faults.WalkRefusal.TheVariants.{WrongType}
 use Rattle.language.specs.declared.values.ValueType.{ValueType}
 use Rattle.language.specs.declared.values.ValueType.TheVariants.{Void, Int}
-use Rattle.language.specs.declared.values.Operator.{Operator}
 use Rattle.language.specs.Numbers.{type_at}
 use Rattle.table.specs.declared.nodes.Node.{Node}
 use Rattle.table.specs.declared.kinds.Class.{Class}
@@ -16,10 +14,9 @@ use Rattle.walk.specs.declared.names.Entry.{Entry}
 use Rattle.walk.specs.declared.names.Parameters.{Parameters}
 use Rattle.walk.specs.declared.names.Parameters.TheVariants as parameters
 use Rattle.walk.specs.declared.names.Tally.{Tally}
-use Rattle.walk.specs.Bind.{refusal}
 use Rattle.walk.specs.Scopes.{Thing, Named, named, Env}
 use Rattle.walk.specs.Scopes.Thing.{variable, function, amount, flag, post}
-use Rattle.walk.specs.Types.{operation_type, Tallied, tallied}
+use Rattle.walk.specs.Types.{Tallied, tallied}
 
 -- the type that a number stands for, or void
 abbrev pub type_in : Option ValueType → ValueType
@@ -28,11 +25,6 @@ type_in None = Void
 
 abbrev pub type_or : ℕ → ValueType
 type_or n = type_in (type_at n)
-
--- the type of an operation, where its operator is known
-abbrev pub operation_at : ℕ → Option Operator → ValueType → ValueType → Result ValueType Fault
-operation_at p (Some o) a b = operation_type p o a b
-operation_at p None a b = Err (refusal p WrongType)
 
 abbrev pub is_parameter : Class → Bool
 is_parameter classes.Declaration = false
@@ -43,16 +35,6 @@ is_parameter classes.Block = false
 is_parameter classes.Expression = false
 is_parameter classes.ValueBlock = false
 is_parameter classes.Other = false
-
-abbrev pub is_statement : Class → Bool
-is_statement classes.Declaration = false
-is_statement classes.Parameter = false
-is_statement classes.Body = false
-is_statement classes.Statement = true
-is_statement classes.Block = false
-is_statement classes.Expression = false
-is_statement classes.ValueBlock = false
-is_statement classes.Other = false
 
 -- the types of the parameters that a row of nodes begins with
 abbrev pub leading : List Node → List ValueType

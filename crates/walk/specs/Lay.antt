@@ -1,5 +1,5 @@
 -- The code laid so far, and how it grows. Assumes nothing.
-use Rattle.std.specs.Prelude.{ℕ, List, [], ◌∷◌, ◌++◌, length, take, slice_set}
+use Rattle.std.specs.Prelude.{ℕ, List, [], ◌∷◌, ◌++◌, length, slice_set}
 use Rattle.walk.specs.declared.codes.Instr.{Instr}
 use Rattle.walk.specs.declared.codes.Code.{Code}
 
@@ -19,5 +19,9 @@ abbrev pub aimed : List Instr → ℕ → ℕ → List Instr
 aimed code at c = patched code at c (length code)
 
 -- what is laid in the scratch
-unfoldable pub live : Code → List Instr
-live s = take s.len s.instrs
+abbrev pub live : Code → List Instr
+live s = s.instrs.items
+
+-- how many instructions are laid
+abbrev pub count : Code → ℕ
+count s = length (live s)

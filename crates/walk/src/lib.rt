@@ -2,6 +2,7 @@
 #![tactic(auto)]
 
 pub mod codes;
+pub mod contexts;
 pub mod emitting;
 pub mod flags;
 pub mod lookup;

@@ -1,14 +1,14 @@
 // Finding names, and what those that are found stand for.
-ghost use Rattle.std.specs.Prelude.{◌≡◌, ℕ, ◌<◌, List, length};
+ghost use Rattle.std.specs.Prelude.{◌≡◌, ◌<◌, List, length};
 ghost use Rattle.table.specs.declared.nodes.Node.{Node as Record};
-ghost use Rattle.walk.specs.Lay.{live};
+ghost use Rattle.walk.specs.Lay.{live, count};
 ghost use Rattle.walk.specs.Scopes.{newest as newest_of, declared as declared_at, variable_in, callable as callable_in, operand_of, result_of, parameters_of, opened, closed};
 ghost use Rattle.walk.specs.Known.{name_at, Below, FoundBelow, thing_of, comes, AtMostOne};
 
 use crate::codes::Code;
 use crate::names::{Entry, Parameters, Variable, What};
-use crate::typing::refusal;
 use language::faults::{Fault, WalkRefusal};
+use language::opcodes::Opcode;
 use language::values::ValueType;
 
 // The newest entry with a name.
@@ -16,14 +16,7 @@ pub fn newest(names: &[Entry], name: u32) -> Option<usize>
     ensures answer { result ≡ newest_of (name_at names.now) (length names.now) name }
     ensures within { Below result (length names.now) }
 {
-    let mut k = names.len();
-    while k > 0 {
-        k -= 1;
-        if names[k].name == name {
-            return Some(k);
-        }
-    }
-    None
+    names.iter().rposition(|entry| entry.name == name)
 }
 
 // The index of a name that must be declared.
@@ -31,10 +24,7 @@ pub(crate) fn find(names: &[Entry], place: u32, name: u32) -> Result<usize, Faul
     ensures answer { result ≡ declared_at place (newest_of (name_at names.now) (length names.now) name) }
     ensures within { FoundBelow result (length names.now) }
 {
-    match newest(names, name) {
-        Some(k) => Ok(k),
-        None => Err(refusal(place, WalkRefusal::Undeclared)),
-    }
+    newest(names, name).ok_or(WalkRefusal::Undeclared.at(place))
 }
 
 impl Variable {
@@ -51,22 +41,20 @@ impl What {
     pub(crate) fn variable(self, place: u32, level: u8) -> Result<Variable, Fault>
         ensures { (table : List Record) → result ≡ variable_in place level (thing_of table self) }
     {
-        match self {
-            What::Variable(typed, slot) => Ok(Variable { typed, level, slot }),
-            What::Function(_, _, _) | What::Amount | What::Flag | What::Post => {
-                Err(refusal(place, WalkRefusal::WrongKind))
-            }
-        }
+        let What::Variable { typed, slot } = self else {
+            return Err(WalkRefusal::WrongKind.at(place));
+        };
+        Ok(Variable { typed, level, slot })
     }
 
     // What is called must be no variable.
     pub(crate) fn callable(self, place: u32) -> Result<(), Fault>
         ensures { (table : List Record) → result ≡ callable_in place (thing_of table self) }
     {
-        match self {
-            What::Variable(_, _) => Err(refusal(place, WalkRefusal::WrongKind)),
-            What::Function(_, _, _) | What::Amount | What::Flag | What::Post => Ok(()),
+        if let What::Variable { .. } = self {
+            return Err(WalkRefusal::WrongKind.at(place));
         }
+        Ok(())
     }
 
     // The result of a call.
@@ -74,8 +62,8 @@ impl What {
         ensures { (table : List Record) → result ≡ result_of (thing_of table self) }
     {
         match self {
-            What::Variable(_, _) | What::Post => ValueType::Void,
-            What::Function(result, _, _) => result,
+            What::Variable { .. } | What::Post => ValueType::Void,
+            What::Function { result, .. } => result,
             What::Amount => ValueType::Int,
             What::Flag => ValueType::Bool,
         }
@@ -86,8 +74,8 @@ impl What {
         ensures { (table : List Record) → comes table result ≡ parameters_of (thing_of table self) }
     {
         match self {
-            What::Variable(_, _) => Parameters::NoInts,
-            What::Function(_, first, _) => Parameters::Listed(first),
+            What::Variable { .. } => Parameters::NoInts,
+            What::Function { parameters, .. } => Parameters::Listed(parameters),
             What::Amount | What::Flag => Parameters::OneInt,
             What::Post => Parameters::TwoInts,
         }
@@ -95,27 +83,27 @@ impl What {
 
     // A call of a function begins with links to the frame that declared it.
     pub(crate) fn open(self, level: u8, declared: u8, code: &mut Code)
-        requires { code.old.len < 12288 }
+        requires { count code.old < 12288 }
         ensures code { (table : List Record) → live code.new ≡ opened level declared (thing_of table self) (live code.old) }
-        ensures length { AtMostOne code.old.len code.new.len }
+        ensures length { AtMostOne (count code.old) (count code.new) }
     {
-        if let What::Function(_, _, _) = self {
-            code.emit(20, u32::from(level.saturating_sub(declared)));
+        if let What::Function { .. } = self {
+            code.lay(Opcode::OpenLinks, u32::from(level.saturating_sub(declared)));
         }
     }
 
     // And ends with the call itself.
     pub(crate) fn close(self, code: &mut Code)
-        requires { code.old.len < 12288 }
+        requires { count code.old < 12288 }
         ensures code { (table : List Record) → live code.new ≡ closed (thing_of table self) (live code.old) }
-        ensures length { AtMostOne code.old.len code.new.len }
+        ensures length { AtMostOne (count code.old) (count code.new) }
     {
         match self {
-            What::Variable(_, _) => {}
-            What::Function(_, _, entry) => code.emit(21, entry),
-            What::Amount => code.emit(24, 0),
-            What::Flag => code.emit(25, 0),
-            What::Post => code.emit(26, 0),
+            What::Variable { .. } => {}
+            What::Function { entry, .. } => code.lay(Opcode::Call, entry),
+            What::Amount => code.lay(Opcode::Amount, 0),
+            What::Flag => code.lay(Opcode::Flag, 0),
+            What::Post => code.lay(Opcode::Post, 0),
         }
     }
 }

@@ -3,7 +3,6 @@ ghost use Rattle.std.specs.Prelude.{◌≡◌, ◌<◌};
 ghost use Rattle.walk.specs.Sets.{none_set, marked, both, must_be_set};
 
 use crate::flags::Flags;
-use crate::typing::refusal;
 use language::faults::{Fault, WalkRefusal};
 
 impl Flags {
@@ -29,8 +28,9 @@ impl Flags {
         ensures { result.set ≡ both self.now.set other.now.set }
     {
         let mut set = [false; 256];
-        for k in 0..256 {
-            set[k] = self.set[k] & other.set[k];
+        // Stays by place: `array::from_fn` forgets what its closure captured, and a `zip` what the array holds.
+        for (k, flag) in set.iter_mut().enumerate() {
+            *flag = self.set[k] && other.set[k];
         }
         Flags { set }
     }
@@ -43,7 +43,7 @@ impl Flags {
         if self.set[k] {
             Ok(())
         } else {
-            Err(refusal(place, WalkRefusal::NotSet))
+            Err(WalkRefusal::NotSet.at(place))
         }
     }
 }
