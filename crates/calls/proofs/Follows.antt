@@ -20,9 +20,9 @@ use Rattle.engine.specs.declared.record.Stage.TheVariants.{Running, Ended}
 use Rattle.engine.specs.Calls.{Area, Resumed, area, and_then, allowed, standing, machine_of, went_on}
 use Rattle.calls.specs.declared.call.Call.{Call}
 use Rattle.calls.specs.declared.call.Call.TheVariants.{Continue}
-use Rattle.calls.specs.declared.call.Answer.{Answer}
 use Rattle.calls.specs.declared.call.Answer.TheVariants.{Continued}
-use Rattle.calls.specs.History.{Entry, History, None-of, OneHost, Finds, taken, ends_run, steps_of, steps, outcome_of, outcome_from, allowances, pieces, onward, host_where}
+use Rattle.calls.specs.Called.{Answered}
+use Rattle.calls.specs.History.{Entry, History, None-of, OneHost, Finds, taken, ends_run, ran_of, steps_of, steps, outcome_of, outcome_from, allowances, pieces, onward, host_where}
 use Rattle.calls.specs.Law.{told_since}
 use Rattle.calls.proofs.Replies.{Lasting, turned, went, lasting, came-of}
 use Rattle.calls.proofs.Words.{on_to, run-same, run-split}
@@ -38,7 +38,7 @@ pub record Follows (image : List ℕ) (header : Header) (limit : ℕ) (es : List
   pub hosts : (m : Meaning) → host_where m es ≡ last_host image header limit m (pieces es) t
   pub alone : (m last : Meaning) → OneHost m es last → told_since es last ≡ tells (run by_meaning image header limit (allowances es) m t)
 
-abbrev entry : Call → Meaning → Answer → Meaning → Entry
+abbrev entry : Call → Meaning → Answered → Meaning → Entry
 entry c m x m' = record { call = c; found = m; answer = x; left = m' }
 
 -- only what was allowed came out
@@ -50,17 +50,17 @@ module _ (words : List ℕ) (k : Loaded) (cells : List Cell) (o : Outcome) where
   pub over-area : Area
   over-area = area words cells (Ended k o)
 
-  pub record Stays (x : Answer) (m m' : Meaning) (next : Area) : Type 0 where
+  pub record Stays (x : Answered) (m m' : Meaning) (next : Area) : Type 0 where
     pub area_same : next ≡ area words cells (Ended k o)
-    pub outcome-same : outcome_of o x ≡ o
-    pub no_steps : steps_of x ≡ 0
+    pub outcome-same : outcome_of o (ran_of x) ≡ o
+    pub no_steps : steps_of (ran_of x) ≡ 0
     pub host-same : m' ≡ m
 
-  stays : (c : Call) (m : Meaning) (x : Answer) (next : Area) (m' : Meaning) → Lasting (area words cells (Ended k o)) c m x next m' → Stays x m m' next
+  stays : (c : Call) (m : Meaning) (x : Answered) (next : Area) (m' : Meaning) → Lasting (area words cells (Ended k o)) c m x next m' → Stays x m m' next
   stays c m x next m' (turned f) = record { area_same = refl; outcome-same = refl; no_steps = refl; host-same = refl }
   stays c m x next m' (went n r e) =
       let same = went-is (allowed k (length words) (length cells) n) (record { answer = record { steps = 0; outcome = o }; area = area words cells (Ended k o); meaning = m }) r e in
-      subst (λ (q : Resumed). Stays (Continued q.answer) m q.meaning q.area) same
+      subst (λ (q : Resumed). Stays (Ok (Continued q.answer)) m q.meaning q.area) same
       (record { area_same = refl; outcome-same = refl; no_steps = refl; host-same = refl })
 
   pub record Over (es : List Entry) : Type 0 where
@@ -129,7 +129,7 @@ module _ (words : List ℕ) (k : Loaded) (limit : ℕ) (image : List ℕ) (same 
       subst (λ (r : Run Meaning). Shows limit r (ran words k.image.header n m (whole t junk))) (run-same by_meaning words image k.image.header limit same n m t)
       (subst (λ j. Shows j (run by_meaning words k.image.header j n m t) (ran words k.image.header n m (whole t junk))) l (run-is-the-stacks words k.image.header n m t junk))
 
-  more-follows : (n : ℕ) (m : Meaning) (t : Stack) (es : List Entry) → Goes (piece_run n m t) es (piece_run n m t).outcome → Follows image k.image.header limit (entry (Continue n) m (Continued (record { steps = (piece_run n m t).steps; outcome = (piece_run n m t).outcome })) (piece_run n m t).host ∷ es) t
+  more-follows : (n : ℕ) (m : Meaning) (t : Stack) (es : List Entry) → Goes (piece_run n m t) es (piece_run n m t).outcome → Follows image k.image.header limit (entry (Continue n) m (Ok (Continued (record { steps = (piece_run n m t).steps; outcome = (piece_run n m t).outcome }))) (piece_run n m t).host ∷ es) t
   more-follows n m t es g = record {
     outcomes = g.outcomes;
     counts = g.counts;
@@ -137,7 +137,7 @@ module _ (words : List ℕ) (k : Loaded) (limit : ℕ) (image : List ℕ) (same 
     alone = λ m' last q. g.alone last q.1 ∙ sym (ap tells (run-split by_meaning image k.image.header limit n (allowances es) m t)) ∙ ap (λ x. tells (piece_run (n + allowances es) x t)) q.0;
   }
 
-  one_more : (es : List Entry) → From es → (t : Stack) (junk : List Cell) (after : Area) → length (over t.cells junk) ≡ limit → (c : Call) (m : Meaning) (x : Answer) (next : Area) (m' : Meaning) → Lasting (running t junk) c m x next m' → History next es after → None-of ends_run es → Follows image k.image.header limit (entry c m x m' ∷ es) t
+  one_more : (es : List Entry) → From es → (t : Stack) (junk : List Cell) (after : Area) → length (over t.cells junk) ≡ limit → (c : Call) (m : Meaning) (x : Answered) (next : Area) (m' : Meaning) → Lasting (running t junk) c m x next m' → History next es after → None-of ends_run es → Follows image k.image.header limit (entry c m x m' ∷ es) t
   one_more es from t junk after l c m x next m' (turned f) h none =
       let g = from t junk after l h none in record {
         outcomes = g.outcomes;
@@ -149,7 +149,7 @@ module _ (words : List ℕ) (k : Loaded) (limit : ℕ) (image : List ℕ) (same 
       let s = shown n m t junk l in
       let is : went_on k (running t junk) (whole_run (piece_run n m t) s.0) ≡ r =
       sym (ap (went_on k (running t junk)) s.1) ∙ went-is (allowed k (length words) (length (over t.cells junk)) n) (went_on k (running t junk) (ran words k.image.header n m (whole t junk))) r e in
-      subst (λ (q : Resumed). History q.area es after → Follows image k.image.header limit (entry (Continue n) m (Continued q.answer) q.meaning ∷ es) t) is
+      subst (λ (q : Resumed). History q.area es after → Follows image k.image.header limit (entry (Continue n) m (Ok (Continued q.answer)) q.meaning ∷ es) t) is
       (λ h'. more-follows n m t es (goes (piece_run n m t) es s.0 after s.2 from (piece_run n m t).outcome refl h' none))
       h
 

@@ -1,26 +1,22 @@
 -- A run in a list of calls, found by cutting the list: the image of its table's rule set is in the buffer, and the calls since its begin follow the machine. Assumes nothing.
-use Rattle.std.proofs.Common.{◌≡◌, ℕ, ◌+◌, ◌≤◌, true, false, List, [], ◌∷◌, ◌++◌, map, length, get_or, drop, Ok, Result, sym, refl, ap, ◌∙◌, subst, subst₂, append_assoc, append-nil}
-use mathlib.Core.List.{map-map}
-use lib.ListN.{length-map}
+use Rattle.std.proofs.Common.{◌≡◌, ℕ, ◌+◌, ◌*◌, ◌≤◌, true, false, List, [], ◌∷◌, ◌++◌, length, get_or, drop, Ok, sym, refl, ap, ◌∙◌, subst, subst₂, append_assoc, append-nil, arith}
 use Rattle.language.specs.declared.values.ValueType.{ValueType}
-use Rattle.language.specs.Numbers.{type_number}
 use Rattle.image.specs.declared.instruction.Accepted.{Accepted}
 use Rattle.machine.specs.declared.cells.Cell.{Cell}
 use Rattle.machine.specs.Begin as begins
 use Rattle.stack.specs.Stack.{beginning}
 use Rattle.stack.specs.Law.{whole}
 use Rattle.table.specs.declared.nodes.Node.{Node}
-use Rattle.table.specs.Tree.{Program}
 use Rattle.table.proofs.Proved.{one-tree}
 use Rattle.walk.specs.declared.codes.Instr.{Instr}
 use Rattle.walk.specs.Programs.{walk_program}
 use Rattle.rules.specs.Resolved.{Rules}
-use Rattle.rules.specs.Translate.{Laid, image, translated}
-use Rattle.typing.specs.Rules.{IsTyped, single_exp, dec_stm_exp}
+use Rattle.rules.specs.Translate.{image, translated}
 use Rattle.theory.specs.Runs.{header_for}
 use Rattle.engine.specs.declared.record.Loaded.{Loaded}
 use Rattle.engine.specs.Calls.{Area, same_lengths}
 use Rattle.engine.specs.Admit.{image_of, known_of}
+use Rattle.engine.proofs.Admits.{image-length, result-is, plain-length, plain-operands, plain-image, same-pair}
 use Rattle.calls.specs.declared.call.Call.TheVariants.{Continue}
 use Rattle.calls.specs.declared.call.Answer.TheVariants.{Continued}
 use Rattle.admission.specs.Judged.{Judged}
@@ -33,7 +29,7 @@ use Rattle.calls.specs.Law.{RuleSet, CanGoOn}
 use Rattle.calls.proofs.Kept.{Top, Numbered, Holds, Begun-stage, numbered, still-holds, still-runs, puts_none, goes_on, framed}
 use Rattle.calls.proofs.Words.{fetched-before}
 use Rattle.calls.proofs.Follows.{Follows, follows}
-use Rattle.calls.proofs.Starts.{Admits, Starts, cut, join, admits-call, starts-call, image-long}
+use Rattle.calls.proofs.Starts.{Admits, Starts, cut, join, admits-call, starts-call}
 
 -- calls since a begin, on a row of so many cells, follow the machine on an image of which this is known
 pub record Machine (words : List ℕ) (known : Accepted) (cells : ℕ) (since : List Entry) : Type 0 where
@@ -106,6 +102,7 @@ found table cells begun since x =
     let s = c.starts in
     let words = image_of a.type a.code in
     let k : Loaded = record { image = known_of a.type a.code; buffer = a.buffer; cells = a.cells } in
+    let long : 2 + 2 * length a.code ≤ length words = omega (arith, image-length a.type a.code) in
     record {
       type = a.type;
       code = a.code;
@@ -116,7 +113,7 @@ found table cells begun since x =
         begun = s.begun;
         room = s.room;
         follows =
-            follows (words ++ a.more) k cells words (fetched-before words a.more k.image.header (image-long a.type a.code)) since (beginning k.image.others) (drop (4 + k.image.others) c.before.cells) c.last
+            follows (words ++ a.more) k cells words (fetched-before words a.more k.image.header long) since (beginning k.image.others) (drop (4 + k.image.others) c.before.cells) c.last
             (framed k.image.others c.before.cells s.room ∙ c.number) (subst (λ z. History z since c.last) s.stands c.calls) x.within.lasts;
       };
     }
@@ -143,8 +140,8 @@ can-go-on table cells begun since x m n h =
     let runs = still-runs since c.next c.last c.calls w.lasts (subst (λ (z : Area). Begun-stage z.stage) (sym s.stands) tt) in
     let lengths : same_lengths k (length c.last.words) (length c.last.cells) ≡ true = (λ i. same_lengths k (length (holds.0 i)) ((c.last-number ∙ sym c.number) i)) ∙ s.lengths in
     let r = goes_on k c.last.stage n m c.last runs holds.1 lengths h in
-    let e : Entry = record { call = Continue n; found = m; answer = Continued r.0.answer; left = r.0.meaning } in
-    let called : Called (Continue n) (world c.last m) (Continued r.0.answer) (world r.0.area r.0.meaning) = (
+    let e : Entry = record { call = Continue n; found = m; answer = Ok (Continued r.0.answer); left = r.0.meaning } in
+    let called : Called (Continue n) (world c.last m) (Ok (Continued r.0.answer)) (world r.0.area r.0.meaning) = (
       ap (λ z. (resumed z (world c.last m)).answer) (sym r.1),
       ap (λ z. (resumed z (world c.last m)).after) (sym r.1),
     ) in (
@@ -175,24 +172,6 @@ can-go-on table cells begun since x m n h =
       },
     )
 
--- a program resolves to rules of its type
-pub result-is : (p : Program) (t : ValueType) (r : Rules) → IsTyped p t r → r.result ≡ t
-result-is p t r (single_exp h) = refl
-result-is p t r (dec_stm_exp Γ Γ' d s e) = refl
-
--- the image of a translation
-plain-length : (code : List Laid) → length (plain code) ≡ length code
-plain-length code = length-map code _
-
-plain-codes : (code : List Laid) → map (λ (i : Instr). i.code) (plain code) ≡ map (λ (i : Laid). i.code) code
-plain-codes code = map-map _ _ code
-
-plain-operands : (code : List Laid) → map (λ (i : Instr). i.operand) (plain code) ≡ map (λ (i : Laid). i.operand) code
-plain-operands code = map-map _ _ code
-
-plain-image : (r : Rules) → image_of r.result (plain (translated r)) ≡ image r
-plain-image r = λ i. plain-length (translated r) i ∷ type_number r.result ∷ (plain-codes (translated r) i ++ plain-operands (translated r) i)
-
 -- what is known of a rule set's image
 abbrev pub known_rules : Rules → Accepted
 known_rules r = record { header = header_for (translated r) r.result; others = r.others }
@@ -202,9 +181,6 @@ plain_known r = λ i. record {
   header = record { count = plain-length (translated r) i; result = r.result };
   others = get_or (plain-operands (translated r) i) 0 0;
 }
-
-same-pair : {A B F : Type 0} (a c : A) (b d : B) → ◌≡◌ {A = Result (A × B) F} (Ok (a, b)) (Ok (c, d)) → (a ≡ c) × (b ≡ d)
-same-pair {A} {B} {F} a c b d e = let p : ◌≡◌ {A = A × B} (a, b) (c, d) = cc in (ap (λ (x : A × B). x.0) p, ap (λ (x : A × B). x.1) p)
 
 -- A run of an admitted table is the machine's run of its rule set's image
 pub machine-of : (table : List Node) (t : ValueType) (r : Rules) → RuleSet table t r → (cells : ℕ) (since : List Entry) → Found table cells since → Machine (image r) (known_rules r) cells since

@@ -30,9 +30,9 @@ use Rattle.calls.specs.declared.call.Call.{Call}
 use Rattle.calls.specs.declared.call.Call.TheVariants.{Admit, Bring, Begin, Continue, Clear}
 use Rattle.calls.specs.declared.call.Answer.{Answer}
 use Rattle.calls.specs.declared.call.Answer.TheVariants.{Admitted, Brought, Begun}
-use Rattle.calls.specs.Called.{World, world, Gives, Called, replied, resumed}
+use Rattle.calls.specs.Called.{World, Answered, world, Gives, Called, replied, resumed}
 use Rattle.calls.specs.History.{Entry, History, taken, puts_image, ends_run, None-of}
-use Rattle.calls.proofs.Replies.{refused-changes-nothing, not_taken}
+use Rattle.calls.proofs.Replies.{err-is-not-ok, refused-changes-nothing, not_taken}
 
 -- whatever area comes out is of this kind
 abbrev Out : (Area → Type 0) → Result Area Fault → Type 0
@@ -48,7 +48,7 @@ module _ (P : Area → Type 0) where
   out-then (Ok a) f h = h a refl
   out-then (Err e) f h = tt
 
-  after-replied : (good : Answer) (x : Result Area Fault) (w : World) (a : Answer) (after : World) → Gives (replied good x w) a after → P w.area → Out P x → P after.area
+  after-replied : (good : Answer) (x : Result Area Fault) (w : World) (a : Answered) (after : World) → Gives (replied good x w) a after → P w.area → Out P x → P after.area
   after-replied good (Ok b) w a after g p h = subst (λ (z : World). P z.area) (sym g.1) h
   after-replied good (Err e) w a after g p h = subst (λ (z : World). P z.area) (sym g.1) p
 
@@ -62,7 +62,7 @@ module _ (P : Area → Type 0) where
   out-allowed (Ok u) r h = h
   out-allowed (Err e) r h = tt
 
-  after-resumed : (x : Result Resumed Fault) (w : World) (a : Answer) (after : World) → Gives (resumed x w) a after → P w.area → OutResumed P x → P after.area
+  after-resumed : (x : Result Resumed Fault) (w : World) (a : Answered) (after : World) → Gives (resumed x w) a after → P w.area → OutResumed P x → P after.area
   after-resumed (Ok r) w a after g p h = subst (λ (z : World). P z.area) (sym g.1) h
   after-resumed (Err e) w a after g p h = subst (λ (z : World). P z.area) (sym g.1) p
 
@@ -80,8 +80,8 @@ pub begun-at : (others : ℕ) (cells : List Cell) (s : State) → begins.begun o
 begun-at others cells s e = go (ltb (length cells) (4 + others)) (ltb 65536 (length cells)) (ltb-false (length cells) (4 + others)) e
   where
     go : (x y : Bool) → (x ≡ false → 4 + others ≤ length cells) → cond x (Err CellCount) (cond y (Err CellCount) (Ok (begins.beginning others cells))) ≡ Ok s → (4 + others ≤ length cells) × (s ≡ whole (beginning others) (drop (4 + others) cells))
-    go true y h e = let z : ◌≡◌ {A = ℕ} 0 1 = cc in absurd (omega arith)
-    go false true h e = let z : ◌≡◌ {A = ℕ} 0 1 = cc in absurd (omega arith)
+    go true y h e = absurd (err-is-not-ok e)
+    go false true h e = absurd (err-is-not-ok e)
     go false false h e =
         let same : begins.beginning others cells ≡ s = cc in
         (h refl, sym same ∙ beginning-is-the-stacks others cells (h refl))
@@ -134,7 +134,7 @@ module _ (n : ℕ) where
   written-numbered : (words : List ℕ) (a : Area) (image : Accepted) → length a.cells ≡ n → Out (Numbered n) (written words a image)
   written-numbered words a image e = out-tested (Numbered n) (leb (length words) (length a.words)) (Ok (holding words image a)) _ (e, tt)
 
-  numbered-called : (c : Call) (w : World) (a : Answer) (after : World) → Called c w a after → Numbered n w.area → Numbered n after.area
+  numbered-called : (c : Call) (w : World) (a : Answered) (after : World) → Called c w a after → Numbered n w.area → Numbered n after.area
   numbered-called (Admit table) w a after h s =
       after-replied (Numbered n) (Admitted (words_of h.0)) (admitting h.0 w.area) w a after h.2 s
       (out-then (Numbered n) h.0 (λ p. written (image_of p.0 p.1) w.area (known_of p.0 p.1)) (λ p _. written-numbered (image_of p.0 p.1) w.area (known_of p.0 p.1) s.0))
@@ -155,6 +155,18 @@ module _ (n : ℕ) where
   numbered (e ∷ es) area after h s =
       numbered es h.0 after h.2 (numbered-called e.call (world area e.found) e.answer (world h.0 e.left) h.1 s)
 
+module _ (P : Area → Type 0) where
+  -- a call that is turned down keeps what holds of the area
+  unless-taken : (c : Call) (w : World) (a : Answered) (after : World) → Called c w a after → cond (taken a) true false ≡ false → P w.area → P after.area
+  unless-taken c w a after h e s =
+      subst (λ (z : World). P z.area) (sym (refused-changes-nothing c w a after h (not_taken (taken a) e))) s
+
+  -- and so do calls of which none is an accepted one of a kind, where all others keep it
+  still : (kind : Call → Bool) → ((c : Call) (w : World) (a : Answered) (after : World) → Called c w a after → cond (taken a) (kind c) false ≡ false → P w.area → P after.area) → (es : List Entry) (area after : Area) → History area es after → None-of kind es → P area → P after
+  still kind keeps [] area after h none s = subst P (sym h) s
+  still kind keeps (e ∷ es) area after h none s =
+      still kind keeps es h.0 after h.2 none.1 (keeps e.call (world area e.found) e.answer (world h.0 e.left) h.1 none.0 s)
+
 -- what the record knows of the image, unless it is blank
 abbrev pub Knows : Loaded → Stage → Type 0
 Knows k Blank = Unit {0}
@@ -168,7 +180,7 @@ Holds words k a = (a.words ≡ words) × Knows k a.stage
 
 module _ (words : List ℕ) (k : Loaded) where
   pub knows-loaded : (s : Stage) (l : Loaded) → Knows k s → loaded s ≡ Ok l → l ≡ k
-  knows-loaded Blank l h e = let z : ◌≡◌ {A = ℕ} 0 1 = cc in absurd (omega arith)
+  knows-loaded Blank l h e = absurd (err-is-not-ok e)
   knows-loaded (Ready x) l h e = let q : x ≡ l = cc in sym q ∙ h
   knows-loaded (Running x m) l h e = let q : x ≡ l = cc in sym q ∙ h
   knows-loaded (Ended x o) l h e = let q : x ≡ l = cc in sym q ∙ h
@@ -191,13 +203,9 @@ module _ (words : List ℕ) (k : Loaded) where
   resumed-holds (Ended l o) n m a e h =
       out-allowed (Holds words k) (allowed l (length a.words) (length a.cells) n) (record { answer = record { steps = 0; outcome = o }; area = a; meaning = m }) e
 
-  unless-taken : (c : Call) (w : World) (a : Answer) (after : World) → Called c w a after → cond (taken a) true false ≡ false → Holds words k w.area → Holds words k after.area
-  unless-taken c w a after h e s =
-      subst (λ (z : World). Holds words k z.area) (sym (refused-changes-nothing c w a after h (not_taken (taken a) e))) s
-
-  holds-called : (c : Call) (w : World) (a : Answer) (after : World) → Called c w a after → cond (taken a) (puts_image c) false ≡ false → Holds words k w.area → Holds words k after.area
-  holds-called (Admit table) w a after h e s = unless-taken (Admit table) w a after h e s
-  holds-called (Bring ws) w a after h e s = unless-taken (Bring ws) w a after h e s
+  holds-called : (c : Call) (w : World) (a : Answered) (after : World) → Called c w a after → cond (taken a) (puts_image c) false ≡ false → Holds words k w.area → Holds words k after.area
+  holds-called (Admit table) w a after h e s = unless-taken (Holds words k) (Admit table) w a after h e s
+  holds-called (Bring ws) w a after h e s = unless-taken (Holds words k) (Bring ws) w a after h e s
   holds-called Begin w a after h e s =
       after-replied (Holds words k) Begun (beginning_area w.area) w a after h s
       (out-then (Holds words k) (loaded w.area.stage) _
@@ -208,9 +216,7 @@ module _ (words : List ℕ) (k : Loaded) where
   holds-called Clear w a after h e s = subst (λ (z : World). Holds words k z.area) (sym h.1) (s.0, tt)
 
   pub still-holds : (es : List Entry) (area after : Area) → History area es after → None-of puts_image es → Holds words k area → Holds words k after
-  still-holds [] area after h none s = subst (Holds words k) (sym h) s
-  still-holds (e ∷ es) area after h none s =
-      still-holds es h.0 after h.2 none.1 (holds-called e.call (world area e.found) e.answer (world h.0 e.left) h.1 none.0 s)
+  still-holds = still (Holds words k) puts_image holds-called
 
 -- a run is there: paused, or ended
 abbrev pub Begun-stage : Stage → Type 0
@@ -236,22 +242,16 @@ resumed-runs (Running l machine) n m a h =
 resumed-runs (Ended l o) n m a h =
     out-allowed HasRun (allowed l (length a.words) (length a.cells) n) (record { answer = record { steps = 0; outcome = o }; area = a; meaning = m }) h
 
-runs-unless : (c : Call) (w : World) (a : Answer) (after : World) → Called c w a after → cond (taken a) true false ≡ false → HasRun w.area → HasRun after.area
-runs-unless c w a after h e s =
-    subst (λ (z : World). HasRun z.area) (sym (refused-changes-nothing c w a after h (not_taken (taken a) e))) s
-
-runs-called : (c : Call) (w : World) (a : Answer) (after : World) → Called c w a after → cond (taken a) (ends_run c) false ≡ false → HasRun w.area → HasRun after.area
-runs-called (Admit table) w a after h e s = runs-unless (Admit table) w a after h e s
-runs-called (Bring words) w a after h e s = runs-unless (Bring words) w a after h e s
-runs-called Begin w a after h e s = runs-unless Begin w a after h e s
+runs-called : (c : Call) (w : World) (a : Answered) (after : World) → Called c w a after → cond (taken a) (ends_run c) false ≡ false → HasRun w.area → HasRun after.area
+runs-called (Admit table) w a after h e s = unless-taken HasRun (Admit table) w a after h e s
+runs-called (Bring words) w a after h e s = unless-taken HasRun (Bring words) w a after h e s
+runs-called Begin w a after h e s = unless-taken HasRun Begin w a after h e s
 runs-called (Continue n) w a after h e s =
     after-resumed HasRun (resuming n w.meaning w.area) w a after h s (resumed-runs w.area.stage n w.meaning w.area s)
-runs-called Clear w a after h e s = runs-unless Clear w a after h e s
+runs-called Clear w a after h e s = unless-taken HasRun Clear w a after h e s
 
 pub still-runs : (es : List Entry) (area after : Area) → History area es after → None-of ends_run es → Begun-stage area.stage → Begun-stage after.stage
-still-runs [] area after h none s = subst HasRun (sym h) s
-still-runs (e ∷ es) area after h none s =
-    still-runs es h.0 after h.2 none.1 (runs-called e.call (world area e.found) e.answer (world h.0 e.left) h.1 none.0 s)
+still-runs = still HasRun ends_run runs-called
 
 -- calls that end no run put no image
 puts-less : (c : Call) (b : Bool) → cond b (ends_run c) false ≡ false → cond b (puts_image c) false ≡ false

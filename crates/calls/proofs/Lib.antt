@@ -9,4 +9,3 @@ pub mod Alike
 pub mod Onward
 pub mod Laws
 pub mod Plays
-pub mod Answered

@@ -1,6 +1,6 @@
 -- What an accepted admit and an accepted begin leave, and histories cut in two. Assumes nothing.
-use Rattle.std.proofs.Common.{◌≡◌, ℕ, ◌+◌, ◌*◌, ◌≤◌, true, leb, List, [], ◌∷◌, ◌++◌, map, length, drop, Some, None, Ok, Err, Result, sym, refl, ap, ◌∙◌, subst, arith, length-append}
-use lib.ListN.{length-map}
+use Rattle.std.proofs.Common.{◌≡◌, ℕ, ◌+◌, ◌≤◌, true, leb, List, [], ◌∷◌, ◌++◌, length, drop, Some, Ok, Err, Result, sym, refl, ap, ◌∙◌, subst}
+use Rattle.std.proofs.lemmas.Option.{none-some}
 use Rattle.language.specs.declared.faults.BeginRefusal.{BeginRefusal}
 use Rattle.language.specs.declared.values.ValueType.{ValueType}
 use Rattle.host.specs.Meaning.{Meaning}
@@ -18,12 +18,11 @@ use Rattle.engine.specs.Calls as engine
 use Rattle.engine.specs.Admit.{admitting, words_of, image_of, known_of}
 use Rattle.calls.specs.declared.call.Call.{Call}
 use Rattle.calls.specs.declared.call.Call.TheVariants.{Admit, Bring, Begin, Continue, Clear}
-use Rattle.calls.specs.declared.call.Answer.{Answer}
 use Rattle.calls.specs.declared.call.Answer.TheVariants.{Admitted, Begun}
 use Rattle.admission.specs.Judged.{Verdict, Judged}
-use Rattle.calls.specs.Called.{World, world, Called}
+use Rattle.calls.specs.Called.{World, Answered, world, Called}
 use Rattle.calls.specs.History.{Entry, History, taken, table_of}
-use Rattle.calls.proofs.Replies.{replied-taken, came-of, came-past}
+use Rattle.calls.proofs.Replies.{err-is-not-ok, replied-taken, came-of, came-past}
 use Rattle.calls.proofs.Kept.{Holds, knows-loaded, begun-at}
 
 -- the area between two parts of a list
@@ -34,11 +33,6 @@ cut (e ∷ es) fs area after h = let c = cut es fs h.0 after h.2 in (c.0, (h.0, 
 pub join : (es fs : List Entry) (area b after : Area) → History area es b → History b fs after → History area (es ++ fs) after
 join [] fs area b after h k = subst (λ a. History a fs after) h k
 join (e ∷ es) fs area b after h k = (h.0, h.1, join es fs h.0 b after h.2 k)
-
--- an image is as long as its header says
-pub image-long : (t : ValueType) (code : List Instr) → 2 + 2 * length code ≤ length (image_of t code)
-image-long t code =
-    omega (arith, length-append (map (λ (i : Instr). i.code) code) (map (λ (i : Instr). i.operand) code), length-map code (λ (i : Instr). i.code), length-map code (λ (i : Instr). i.operand))
 
 -- after an accepted admit the buffer begins with the table's image, and the record knows it
 pub record Admits (table : List Node) (next : Area) : Type 0 where
@@ -67,18 +61,15 @@ admits-verdict table v a next j e =
       holds = subst (Holds (image_of t code ++ drop (length (image_of t code)) a.words) (record { image = known_of t code; buffer = length a.words; cells = length a.cells })) same (refl, refl);
     }
 
-none-is-some : {A : Type 0} (a : A) → None ≡ Some a → ⊥
-none-is-some a e = let z : ◌≡◌ {A = ℕ} 0 1 = cc in omega arith
-
-pub admits-call : (c : Call) (table : List Node) (a next : Area) (m m' : Meaning) (x : Answer) → table_of c ≡ Some table → Called c (world a m) x (world next m') → taken x ≡ true → Admits table next
+pub admits-call : (c : Call) (table : List Node) (a next : Area) (m m' : Meaning) (x : Answered) → table_of c ≡ Some table → Called c (world a m) x (world next m') → taken x ≡ true → Admits table next
 admits-call (Admit ref) table a next m m' x e h y =
-    let g = replied-taken (Admitted (words_of h.0)) refl (world a m) x (world next m') (admitting h.0 a) h.2 y in
+    let g = replied-taken (Admitted (words_of h.0)) (world a m) x (world next m') (admitting h.0 a) h.2 y in
     let same : ref.now ≡ table = cc in
     subst (λ z. Admits z next) same (admits-verdict ref.now h.0 a next h.1 (g.1 ∙ ap (λ (w : World). Ok w.area) (sym g.2)))
-admits-call (Bring ws) table a next m m' x e h y = absurd (none-is-some table e)
-admits-call Begin table a next m m' x e h y = absurd (none-is-some table e)
-admits-call (Continue n) table a next m m' x e h y = absurd (none-is-some table e)
-admits-call Clear table a next m m' x e h y = absurd (none-is-some table e)
+admits-call (Bring ws) table a next m m' x e h y = absurd (none-some table e)
+admits-call Begin table a next m m' x e h y = absurd (none-some table e)
+admits-call (Continue n) table a next m m' x e h y = absurd (none-some table e)
+admits-call Clear table a next m m' x e h y = absurd (none-some table e)
 
 -- after an accepted begin the record runs, on the program's frame over what lies above it
 pub record Starts (words : List ℕ) (k : Loaded) (row : List Cell) (next : Area) : Type 0 where
@@ -97,7 +88,7 @@ starts_from words k a next h l (Ok s) b e =
       begun = b ∙ ap Ok q.1;
       stands = sym same ∙ (λ i. engine.area (h.0 i) (q.1 i).cells (Running k (machine_of (q.1 i))));
     }
-starts_from words k a next h l (Err f) b e = let z : ◌≡◌ {A = ℕ} 0 1 = cc in absurd (omega arith)
+starts_from words k a next h l (Err f) b e = absurd (err-is-not-ok e)
 
 starts-area : (words : List ℕ) (k : Loaded) (a next : Area) → Holds words k a → engine.beginning a ≡ Ok next → Starts words k a.cells next
 starts-area words k a next h e =
@@ -107,7 +98,7 @@ starts-area words k a next h e =
     starts_from words k a next h ((λ i. same_lengths (sym same i) (length (sym h.0 i)) (length a.cells)) ∙ w.0) (begins.begun k.image.others a.cells) refl
     (subst (λ (l : Loaded). started l a (begins.begun l.image.others a.cells) ≡ Ok next) same w.1)
 
-pub starts-call : (c : Call) (words : List ℕ) (k : Loaded) (a next : Area) (m m' : Meaning) (x : Answer) → c ≡ Begin → Called c (world a m) x (world next m') → taken x ≡ true → Holds words k a → Starts words k a.cells next
+pub starts-call : (c : Call) (words : List ℕ) (k : Loaded) (a next : Area) (m m' : Meaning) (x : Answered) → c ≡ Begin → Called c (world a m) x (world next m') → taken x ≡ true → Holds words k a → Starts words k a.cells next
 starts-call c words k a next m m' x e h y s =
-    let g = replied-taken Begun refl (world a m) x (world next m') (engine.beginning a) (subst (λ z. Called z (world a m) x (world next m')) e h) y in
+    let g = replied-taken Begun (world a m) x (world next m') (engine.beginning a) (subst (λ z. Called z (world a m) x (world next m')) e h) y in
     starts-area words k a next s (g.1 ∙ ap (λ (w : World). Ok w.area) (sym g.2))

@@ -1,23 +1,23 @@
 -- Lists of calls with their answers, and the runs in them. Assumes nothing.
-use Rattle.std.specs.Prelude.{◌≡◌, ℕ, ◌+◌, Bool, true, false, cond, List, [], ◌∷◌, ◌++◌, length, Some, None, Option}
+use Rattle.std.specs.Prelude.{◌≡◌, ℕ, ◌+◌, Bool, true, false, cond, List, [], ◌∷◌, ◌++◌, length, Some, None, Ok, Err, Option}
 use Rattle.table.specs.declared.nodes.Node.{Node}
 use Rattle.host.specs.Meaning.{Meaning}
 use Rattle.machine.specs.declared.registers.Outcome.{Outcome}
 use Rattle.machine.specs.declared.registers.Outcome.TheVariants.{Paused, Finished, Halted}
+use Rattle.machine.specs.declared.registers.Ran.{Ran}
 use Rattle.replay.specs.Script.{Piece}
 use Rattle.engine.specs.declared.record.Stage.TheVariants.{Blank}
 use Rattle.engine.specs.Calls.{Area}
 use Rattle.calls.specs.declared.call.Call.{Call}
 use Rattle.calls.specs.declared.call.Call.TheVariants.{Admit, Bring, Begin, Continue, Clear}
-use Rattle.calls.specs.declared.call.Answer.{Answer}
-use Rattle.calls.specs.declared.call.Answer.TheVariants.{Admitted, Brought, Begun, Continued, Cleared, Refused}
-use Rattle.calls.specs.Called.{world, Called}
+use Rattle.calls.specs.declared.call.Answer.TheVariants.{Admitted, Brought, Begun, Continued, Cleared}
+use Rattle.calls.specs.Called.{Answered, world, Called}
 
 -- one call of a list: what was called, what the host then meant, what was answered, what the host means after it
 pub record Entry : Type 0 where
   pub call : Call
   pub found : Meaning
-  pub answer : Answer
+  pub answer : Answered
   pub left : Meaning
 
 -- a list of calls on one area, each finding the area as the one before left it. The host may be another, or may have been changed, from one call to the next
@@ -31,13 +31,9 @@ abbrev pub New : Area → Type 0
 New area = area.stage ≡ Blank
 
 -- a call is accepted that is not turned down
-abbrev pub taken : Answer → Bool
-taken (Admitted n) = true
-taken (Brought n) = true
-taken Begun = true
-taken (Continued r) = true
-taken Cleared = true
-taken (Refused f) = false
+abbrev pub taken : Answered → Bool
+taken (Ok a) = true
+taken (Err f) = false
 
 -- calls that, if accepted, put an image into the buffer
 abbrev pub puts_image : Call → Bool
@@ -99,32 +95,33 @@ abbrev pub allowances : List Entry → ℕ
 allowances [] = 0
 allowances (e ∷ es) = cond (taken e.answer) (allowance_of e.call) 0 + allowances es
 
+-- what an accepted continue ran; other calls run nothing
+abbrev pub ran_of : Answered → Option Ran
+ran_of (Ok (Admitted n)) = None
+ran_of (Ok (Brought n)) = None
+ran_of (Ok Begun) = None
+ran_of (Ok (Continued r)) = Some r
+ran_of (Ok Cleared) = None
+ran_of (Err f) = None
+
 -- how many steps a call tells
-abbrev pub steps_of : Answer → ℕ
-steps_of (Admitted n) = 0
-steps_of (Brought n) = 0
-steps_of Begun = 0
-steps_of (Continued r) = r.steps
-steps_of Cleared = 0
-steps_of (Refused f) = 0
+abbrev pub steps_of : Option Ran → ℕ
+steps_of None = 0
+steps_of (Some r) = r.steps
 
 -- the steps of a run: the counts of its continues, added up
 abbrev pub steps : List Entry → ℕ
 steps [] = 0
-steps (e ∷ es) = steps_of e.answer + steps es
+steps (e ∷ es) = steps_of (ran_of e.answer) + steps es
 
 -- the outcome that an accepted continue gives; after any other call it is as before
-abbrev pub outcome_of : Outcome → Answer → Outcome
-outcome_of before (Admitted n) = before
-outcome_of before (Brought n) = before
-outcome_of before Begun = before
-outcome_of before (Continued r) = r.outcome
-outcome_of before Cleared = before
-outcome_of before (Refused f) = before
+abbrev pub outcome_of : Outcome → Option Ran → Outcome
+outcome_of before None = before
+outcome_of before (Some r) = r.outcome
 
 abbrev pub outcome_from : Outcome → List Entry → Outcome
 outcome_from before [] = before
-outcome_from before (e ∷ es) = outcome_from (outcome_of before e.answer) es
+outcome_from before (e ∷ es) = outcome_from (outcome_of before (ran_of e.answer)) es
 
 -- the outcome of a run is that of its last accepted continue; a run just begun counts as paused
 abbrev pub outcome : List Entry → Outcome
@@ -145,17 +142,13 @@ onward Paused left further = further left
 onward (Finished v) left further = left
 onward (Halted h k) left further = left
 
-abbrev pub past : Answer → Meaning → Meaning → (Meaning → Meaning) → Meaning
-past (Admitted n) before left further = further before
-past (Brought n) before left further = further before
-past Begun before left further = further before
-past (Continued r) before left further = onward r.outcome left further
-past Cleared before left further = further before
-past (Refused f) before left further = further before
+abbrev pub past : Option Ran → Meaning → Meaning → (Meaning → Meaning) → Meaning
+past None before left further = further before
+past (Some r) before left further = onward r.outcome left further
 
 abbrev pub host_where : Meaning → List Entry → Meaning
 host_where before [] = before
-host_where before (e ∷ es) = past e.answer before e.left (λ m. host_where m es)
+host_where before (e ∷ es) = past (ran_of e.answer) before e.left (λ m. host_where m es)
 
 -- one host serves the run, from one meaning to another, and nothing else touches it: each accepted continue finds the meaning that the one before left
 abbrev pub Finds : Bool → Meaning → Entry → (Meaning → Type 0) → Type 0

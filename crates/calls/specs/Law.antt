@@ -22,9 +22,9 @@ use Rattle.theory.specs.Runs.{header_for, Ended, OutOfRoom, EndsAs}
 use Rattle.promises.specs.Promises.{Admitted, Stands, piecewise, last_host}
 use Rattle.calls.specs.declared.call.Call.{Call}
 use Rattle.calls.specs.declared.call.Call.TheVariants.{Continue}
-use Rattle.calls.specs.declared.call.Answer.{Answer}
 use Rattle.admission.specs.Judged.{Verdict, Judged}
-use Rattle.calls.specs.Called.{World, Called}
+use Rattle.calls.specs.Called.{World, Answered, Called}
+use Rattle.calls.specs.Played.{Played}
 use Rattle.calls.specs.History.{Entry, RunOf, taken, OneHost, allowances, steps, outcome, pieces, host_where}
 
 -- the rule set of a table: the type of the program that lays the table out, and what it resolves to
@@ -145,8 +145,14 @@ SomeAllowanceEndsIt =
 abbrev pub OneVerdict : Type 0
 OneVerdict = (table : List Node) (v u : Verdict) → Judged table v → Judged table u → v ≡ u
 
--- and so each call has one answer, and leaves one world
+-- And so each call has one answer, and leaves one world
 abbrev pub OneReply : Type 0
 OneReply =
-    (c : Call) (w : World) (a b : Answer) (after after' : World)
+    (c : Call) (w : World) (a b : Answered) (after after' : World)
     → Called c w a after → Called c w b after' → (a ≡ b) × (after ≡ after')
+
+-- A list of calls that are played on a world with one host has one list of answers, and leaves one world
+abbrev pub OnePlay : Type 0
+OnePlay =
+    (calls : List Call) (w : World) (a b : List Answered) (after after' : World)
+    → Played calls a w after → Played calls b w after' → (a ≡ b) × (after ≡ after')

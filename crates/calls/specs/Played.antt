@@ -5,8 +5,7 @@ use Rattle.machine.specs.declared.cells.Cell.{Cell}
 use Rattle.engine.specs.declared.record.Stage.{Stage}
 use Rattle.engine.specs.Calls.{Area, area}
 use Rattle.calls.specs.declared.call.Call.{Call}
-use Rattle.calls.specs.declared.call.Answer.{Answer}
-use Rattle.calls.specs.Called.{World, world}
+use Rattle.calls.specs.Called.{World, Answered, world}
 use Rattle.calls.specs.History.{Entry, History}
 
 -- one host serves all calls, from one meaning to another, and nothing else touches it
@@ -18,11 +17,11 @@ Served m (e ∷ es) last = (e.found ≡ m) × Served e.left es last
 abbrev pub calls_of : List Entry → List Call
 calls_of es = map (λ e. e.call) es
 
-abbrev pub answers_of : List Entry → List Answer
+abbrev pub answers_of : List Entry → List Answered
 answers_of es = map (λ e. e.answer) es
 
 -- These calls, with these answers, lead from one area and host to another, each finding them as the one before left them
-pub record Played (calls : List Call) (answers : List Answer) (before after : World) : Type 0 where
+pub record Played (calls : List Call) (answers : List Answered) (before after : World) : Type 0 where
   pub entries : List Entry
   pub these : calls_of entries ≡ calls
   pub told : answers_of entries ≡ answers
@@ -30,15 +29,15 @@ pub record Played (calls : List Call) (answers : List Answer) (before after : Wo
   pub served : Served before.meaning entries after.meaning
 
 -- The first k calls of a list have been played; their answers are written at the start, and the rest of the answers is as it was
-pub record Wrote (calls : List Call) (k : ℕ) (before after : World) (old answers : List Answer) : Type 0 where
-  pub so_far : List Answer
+pub record Wrote (calls : List Call) (k : ℕ) (before after : World) (old answers : List Answered) : Type 0 where
+  pub so_far : List Answered
   pub played : Played (take k calls) so_far before after
   pub written : answers ≡ so_far ++ drop k old
 
 -- Calls that were played carry on every list of calls that led to where they began. So whoever plays one call at a time has the law for all the calls
 abbrev pub CarriesOn : Type 0
 CarriesOn =
-    (calls : List Call) (answers : List Answer) (before after : World) → (p : Played calls answers before after)
+    (calls : List Call) (answers : List Answered) (before after : World) → (p : Played calls answers before after)
     → (start : Area) (earlier : List Entry) → History start earlier before.area → History start (earlier ++ p.entries) after.area
 
 -- the code's buffer, cells and record, and what its host means

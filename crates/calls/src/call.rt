@@ -1,9 +1,9 @@
-// A call on a work area as a value, and its answer.
-use language::faults::Fault;
+// A call on a work area as a value, and what it answers where it is not turned down.
 use machine::registers::Ran;
+use std::fmt;
 use table::nodes::Node;
 
-#[derive(Clone, Copy)]
+#[derive(Clone, Copy, PartialEq, Eq, Debug)]
 pub enum Call<'a> {
     Admit(&'a [Node]),
     Bring(&'a [u32]),
@@ -12,13 +12,23 @@ pub enum Call<'a> {
     Clear,
 }
 
-// What a call answers; one that was turned down answers with its fault.
-#[derive(Clone, Copy)]
+// What each call answers; one that is turned down has a fault in place of it.
+#[derive(Clone, Copy, PartialEq, Eq, Debug)]
 pub enum Answer {
     Admitted(usize),
     Brought(usize),
     Begun,
     Continued(Ran),
     Cleared,
-    Refused(Fault),
+}
+
+impl fmt::Display for Answer {
+    fn fmt<W: fmt::Write>(&self, f: &mut fmt::Formatter<W>) -> fmt::Result {
+        match self {
+            Answer::Admitted(count) | Answer::Brought(count) => write!(f, "{count} words"),
+            Answer::Begun => f.write_str("running"),
+            Answer::Continued(ran) => write!(f, "{ran}"),
+            Answer::Cleared => f.write_str("blank"),
+        }
+    }
 }

@@ -7,6 +7,7 @@ ghost use Rattle.calls.specs.Law.{AdmittedHasRules, RunsItsImage, NeverInTrouble
 use crate::call::{Answer, Call};
 use engine::record::Record;
 use host::Host;
+use language::faults::Fault;
 use machine::cells::Cell;
 
 // One call.
@@ -16,29 +17,22 @@ fn one<H: Host>(
     cells: &mut [Cell],
     host: &mut H,
     call: Call,
-) -> Answer
+) -> Result<Answer, Fault>
     ensures { Called call.entry (world_of buffer.old cells.old work.old.stage (H.means host.old)) result (world_of buffer.new cells.new work.new.stage (H.means host.new)) }
 {
     match call {
-        Call::Admit(table) => match work.admit(buffer, cells, table) {
-            Ok(count) => Answer::Admitted(count),
-            Err(fault) => Answer::Refused(fault),
-        },
-        Call::Bring(words) => match work.bring(buffer, cells, words) {
-            Ok(count) => Answer::Brought(count),
-            Err(fault) => Answer::Refused(fault),
-        },
-        Call::Begin => match work.begin(buffer, cells) {
-            Ok(()) => Answer::Begun,
-            Err(fault) => Answer::Refused(fault),
-        },
-        Call::Continue(allowance) => match work.resume(buffer, cells, host, allowance) {
-            Ok(ran) => Answer::Continued(ran),
-            Err(fault) => Answer::Refused(fault),
-        },
+        Call::Admit(table) => Ok(Answer::Admitted(work.admit(buffer, cells, table)?)),
+        Call::Bring(words) => Ok(Answer::Brought(work.bring(buffer, cells, words)?)),
+        Call::Begin => {
+            work.begin(buffer, cells)?;
+            Ok(Answer::Begun)
+        }
+        Call::Continue(allowance) => {
+            Ok(Answer::Continued(work.resume(buffer, cells, host, allowance)?))
+        }
         Call::Clear => {
             work.clear();
-            Answer::Cleared
+            Ok(Answer::Cleared)
         }
     }
 }
@@ -50,7 +44,7 @@ pub fn play<H: Host>(
     cells: &mut [Cell],
     host: &mut H,
     calls: &[Call],
-    answers: &mut [Answer],
+    answers: &mut [Result<Answer, Fault>],
 ) -> usize
     ensures count { result ≡ min (length calls.now) (length answers.old) }
     ensures wrote { Wrote calls.now result (world_of buffer.old cells.old work.old.stage (H.means host.old)) (world_of buffer.new cells.new work.new.stage (H.means host.new)) answers.old answers.new }
@@ -68,8 +62,9 @@ pub fn play<H: Host>(
     ensures ends { SomeAllowanceEndsIt }
 {
     let count = calls.len().min(answers.len());
-    for k in 0..count {
-        answers[k] = one(work, buffer, cells, host, calls[k]);
+    // Stays by place: over `answers.iter_mut().zip(calls)` the invariant has no name for the answers.
+    for (k, call) in calls[..count].iter().enumerate() {
+        answers[k] = one(work, buffer, cells, host, *call);
     }
     count
 }

@@ -1,5 +1,5 @@
 -- The eleven rule sets come to what is worked out, by computation: each table has its tree, the tree its verdict, and the verdict its run. Assumes nothing.
-use Rattle.std.proofs.Common.{◌≡◌, ℕ, List, [], ◌∷◌, pos, negsuc, false, lit≤, refl, subst}
+use Rattle.std.proofs.Common.{◌≡◌, ℕ, List, [], ◌∷◌, pos, negsuc, false, Ok, Err, lit≤, refl, subst}
 use Rattle.language.specs.declared.faults.Cause.TheVariants as causes
 use Rattle.language.specs.declared.faults.Stop.TheVariants as stops
 use Rattle.language.specs.declared.faults.WalkRefusal.TheVariants.{NotSet}
@@ -14,8 +14,8 @@ use Rattle.walk.specs.Programs.{walk_program}
 use Rattle.walk.specs.Sets.{both}
 use Rattle.admission.specs.Judged.{Judged, walked}
 use Rattle.calls.specs.declared.call.Call.TheVariants.{Begin, Continue}
-use Rattle.calls.specs.declared.call.Answer.{Answer}
-use Rattle.calls.specs.declared.call.Answer.TheVariants.{Admitted, Begun, Refused}
+use Rattle.calls.specs.declared.call.Answer.TheVariants.{Admitted, Begun}
+use Rattle.calls.specs.Called.{Answered}
 use Rattle.calls.specs.Played.{Played, answers_of}
 use Rattle.calls_worked.specs.Sample.{admit}
 use Rattle.calls_worked.specs.Cases.{fresh, RunsTo, ReadsUnset, ends, halts, Worked}
@@ -28,9 +28,9 @@ Lays p table = WithinLimits p × (layout p ≡ table) × Sized table
 verdict : (p : Program) (table : List Node) → Lays p table → Judged table (walk_program p)
 verdict p table l = walked p l.0 l.1 l.2
 
-runs : (p : Program) (table : List Node) (room words : ℕ) (answer : Answer)
+runs : (p : Program) (table : List Node) (room words : ℕ) (answer : Answered)
     → Lays p table
-    → answers_of (entries (walk_program p) (admit table ∷ Begin ∷ Continue 1000 ∷ []) (fresh room)) ≡ Admitted words ∷ Begun ∷ answer ∷ []
+    → answers_of (entries (walk_program p) (admit table ∷ Begin ∷ Continue 1000 ∷ []) (fresh room)) ≡ Ok (Admitted words) ∷ Ok Begun ∷ answer ∷ []
     → RunsTo room table words answer
 runs p table room words answer l told = (
   after (walk_program p) (admit table ∷ Begin ∷ Continue 1000 ∷ []) (fresh room),
@@ -39,11 +39,11 @@ runs p table room words answer l told = (
 
 unset : (p : Program) (table : List Node) (place : ℕ)
     → Lays p table
-    → answers_of (entries (walk_program p) (admit table ∷ []) (fresh 100)) ≡ Refused (record { cause = causes.Walk NotSet; place = place }) ∷ []
+    → answers_of (entries (walk_program p) (admit table ∷ []) (fresh 100)) ≡ Err (record { cause = causes.Walk NotSet; place = place }) ∷ []
     → after (walk_program p) (admit table ∷ []) (fresh 100) ≡ fresh 100
     → ReadsUnset table place
 unset p table place l told same =
-    subst (λ w. Played (admit table ∷ []) (Refused (record { cause = causes.Walk NotSet; place = place }) ∷ []) (fresh 100) w) same
+    subst (λ w. Played (admit table ∷ []) (Err (record { cause = causes.Walk NotSet; place = place }) ∷ []) (fresh 100) w) same
     (plays (walk_program p) _ _ (fresh 100) (verdict p table l, tt) told)
 
 -- the samples are laid out by their trees, one after another

@@ -1,13 +1,12 @@
 -- Calls one after another, computed: each answer and each world from the one before. Assumes nothing.
-use Rattle.std.proofs.Common.{◌≡◌, List, [], ◌∷◌, length, refl, ap}
+use Rattle.std.proofs.Common.{◌≡◌, List, [], ◌∷◌, length, Ok, refl, ap}
 use Rattle.engine.specs.Calls.{bringing, beginning, resuming, clearing}
 use Rattle.engine.specs.Admit.{admitting, words_of}
 use Rattle.admission.specs.Judged.{Verdict, Judged}
 use Rattle.calls.specs.declared.call.Call.{Call}
 use Rattle.calls.specs.declared.call.Call.TheVariants.{Admit, Bring, Begin, Continue, Clear}
-use Rattle.calls.specs.declared.call.Answer.{Answer}
 use Rattle.calls.specs.declared.call.Answer.TheVariants.{Admitted, Brought, Begun, Cleared}
-use Rattle.calls.specs.Called.{World, world, Reply, replied, resumed, Called}
+use Rattle.calls.specs.Called.{World, Answered, world, Reply, replied, resumed, Called}
 use Rattle.calls.specs.History.{Entry, History}
 use Rattle.calls.specs.Played.{Played, Served, calls_of, answers_of}
 
@@ -17,7 +16,7 @@ reply v (Admit table) w = replied (Admitted (words_of v)) (admitting v w.area) w
 reply v (Bring words) w = replied (Brought (length words.now)) (bringing words.now w.area) w
 reply v Begin w = replied Begun (beginning w.area) w
 reply v (Continue n) w = resumed (resuming n w.meaning w.area) w
-reply v Clear w = record { answer = Cleared; after = world (clearing w.area) w.meaning }
+reply v Clear w = record { answer = Ok Cleared; after = world (clearing w.area) w.meaning }
 
 -- the verdict is that on the call's table
 abbrev pub Right : Verdict → Call → Type 0
@@ -60,6 +59,6 @@ served v [] w = refl
 served v (c ∷ cs) w = (refl, served v cs (reply v c w).after)
 
 -- these calls have the answers that they compute to
-pub plays : (v : Verdict) (cs : List Call) (answers : List Answer) (w : World) → AllRight v cs → answers_of (entries v cs w) ≡ answers → Played cs answers w (after v cs w)
+pub plays : (v : Verdict) (cs : List Call) (answers : List Answered) (w : World) → AllRight v cs → answers_of (entries v cs w) ≡ answers → Played cs answers w (after v cs w)
 plays v cs answers w r e =
     record { entries = entries v cs w; these = same-calls v cs w; told = e; leads = leads v cs w r; served = served v cs w }

@@ -1,5 +1,5 @@
 -- Rule sets worked out by hand, from node table to ending: each table is admitted, or refused with its number and place; what is admitted is begun, and runs to its ending. Assumes nothing.
-use Rattle.std.specs.Prelude.{ℕ, false, List, [], ◌∷◌, replicate, pos, negsuc, Some, None}
+use Rattle.std.specs.Prelude.{ℕ, false, List, [], ◌∷◌, pos, negsuc, Some, None, Ok, Err}
 use Rattle.language.specs.declared.faults.Cause.TheVariants as causes
 use Rattle.language.specs.declared.faults.Halt.TheVariants.{Stopped}
 use Rattle.language.specs.declared.faults.Stop.{Stop}
@@ -8,17 +8,14 @@ use Rattle.language.specs.declared.faults.WalkRefusal.TheVariants.{NotSet}
 use Rattle.language.specs.declared.values.Value.{Value}
 use Rattle.language.specs.declared.values.Value.TheVariants.{Number, Truth}
 use Rattle.host.specs.Meaning.{Meaning}
-use Rattle.machine.specs.declared.cells.Cell.TheVariants as cells
 use Rattle.machine.specs.declared.registers.Outcome.TheVariants.{Finished, Halted}
-use Rattle.engine.specs.declared.record.Stage.TheVariants.{Blank}
 use Rattle.table.specs.declared.nodes.Node.{Node}
 use Rattle.table.specs.Samples.{sum_table, recursion_table, one_branch_table, two_branches_table, unset_argument_table, set_in_body_table, quotient_table, least_quotient_table, by_zero_table, grouped_table, both_sides_table}
 use Rattle.calls.specs.declared.call.Call.TheVariants.{Begin, Continue}
-use Rattle.calls.specs.declared.call.Answer.{Answer}
-use Rattle.calls.specs.declared.call.Answer.TheVariants.{Admitted, Begun, Refused}
-use Rattle.calls.specs.Called.{World}
-use Rattle.calls.specs.Played.{Played, world_of}
-use Rattle.calls_worked.specs.Sample.{admit, went}
+use Rattle.calls.specs.declared.call.Answer.TheVariants.{Admitted, Begun}
+use Rattle.calls.specs.Called.{World, Answered, world}
+use Rattle.calls.specs.Played.{Played}
+use Rattle.calls_worked.specs.Sample.{untouched, admit, went}
 
 -- a host that has nothing
 abbrev pub nothing_there : Meaning
@@ -26,22 +23,22 @@ nothing_there = record { amount = λ field. None; flag = λ field. None; account
 
 -- a new area of 64 words and so many cells, all holding an old number
 abbrev pub fresh : ℕ → World
-fresh room = world_of (replicate 64 99) (replicate room (cells.Number (pos 99))) Blank nothing_there
+fresh room = world (untouched 64 room 99) nothing_there
 
 -- a table is admitted, its image having so many words, and its run comes to this
-abbrev pub RunsTo : ℕ → List Node → ℕ → Answer → Type 0
+abbrev pub RunsTo : ℕ → List Node → ℕ → Answered → Type 0
 RunsTo room table words answer =
-    (after : World) × Played (admit table ∷ Begin ∷ Continue 1000 ∷ []) (Admitted words ∷ Begun ∷ answer ∷ []) (fresh room) after
+    (after : World) × Played (admit table ∷ Begin ∷ Continue 1000 ∷ []) (Ok (Admitted words) ∷ Ok Begun ∷ answer ∷ []) (fresh room) after
 
 -- a table reads a variable that is not set, at a place; the area stays as it was
 abbrev pub ReadsUnset : List Node → ℕ → Type 0
 ReadsUnset table place =
-    Played (admit table ∷ []) (Refused (record { cause = causes.Walk NotSet; place = place }) ∷ []) (fresh 100) (fresh 100)
+    Played (admit table ∷ []) (Err (record { cause = causes.Walk NotSet; place = place }) ∷ []) (fresh 100) (fresh 100)
 
-abbrev pub ends : ℕ → Value → Answer
+abbrev pub ends : ℕ → Value → Answered
 ends steps v = went steps (Finished (Some v))
 
-abbrev pub halts : ℕ → Stop → ℕ → Answer
+abbrev pub halts : ℕ → Stop → ℕ → Answered
 halts steps why place = went steps (Halted (Stopped why) place)
 
 -- the eleven tables, the first with 6 cells too

@@ -1,21 +1,18 @@
 -- Lists of calls worked out by hand, each on a new area whose memory holds old numbers. Assumes nothing.
-use Rattle.std.specs.Prelude.{◌≡◌, ℕ, true, cond, List, [], ◌∷◌, replicate, pos, Some, None, ◌==◌, nat_lt}
+use Rattle.std.specs.Prelude.{◌≡◌, ℕ, true, cond, List, [], ◌∷◌, pos, Some, None, Ok, ◌==◌, nat_lt}
 use Rattle.language.specs.declared.faults.Cause.TheVariants as causes
 use Rattle.language.specs.declared.faults.BeginRefusal.TheVariants as begins
 use Rattle.language.specs.declared.faults.ContinueRefusal.TheVariants as continues
 use Rattle.language.specs.declared.values.Value.TheVariants.{Number}
 use Rattle.host.specs.Meaning.{Meaning}
-use Rattle.machine.specs.declared.cells.Cell.TheVariants as cells
 use Rattle.machine.specs.declared.registers.Outcome.{Outcome}
 use Rattle.machine.specs.declared.registers.Outcome.TheVariants.{Paused, Finished}
-use Rattle.engine.specs.declared.record.Stage.TheVariants.{Blank}
 use Rattle.calls.specs.declared.call.Call.{Call}
 use Rattle.calls.specs.declared.call.Call.TheVariants.{Begin, Continue, Clear}
-use Rattle.calls.specs.declared.call.Answer.{Answer}
 use Rattle.calls.specs.declared.call.Answer.TheVariants.{Brought, Begun, Cleared}
-use Rattle.calls.specs.Called.{World}
-use Rattle.calls.specs.Played.{Played, world_of}
-use Rattle.calls_worked.specs.Sample.{bring, turned_down, went}
+use Rattle.calls.specs.Called.{World, Answered, world}
+use Rattle.calls.specs.Played.{Played}
+use Rattle.calls_worked.specs.Sample.{untouched, bring, turned_down, went}
 
 -- two accounts, ten charge lines, an amount in field 0 and a flag in field 1
 abbrev pub preferred : Meaning
@@ -33,39 +30,39 @@ duty =
 
 -- a new area of 48 words and so many cells, all holding an old number
 abbrev pub fresh : ℕ → ℕ → World
-fresh room old = world_of (replicate 48 old) (replicate room (cells.Number (pos old))) Blank preferred
+fresh room old = world (untouched 48 room old) preferred
 
 abbrev pub ended : Outcome
 ended = Finished (Some (Number (pos 600)))
 
 -- calls on a new area that have these answers, and what they leave
-abbrev pub Plays : World → List Call → List Answer → World → Type 0
+abbrev pub Plays : World → List Call → List Answered → World → Type 0
 Plays before calls answers after = Played calls answers before after
 
 -- In one piece, in three, and with calls between that are turned down, a run comes to the same: area, cells and host, to the last number
 abbrev pub CutAsYouLike : Type 0
 CutAsYouLike =
     (after : World)
-    × Plays (fresh 40 99) (bring duty ∷ Begin ∷ Continue 100 ∷ []) (Brought 44 ∷ Begun ∷ went 18 ended ∷ []) after
-    × Plays (fresh 40 99) (bring duty ∷ Begin ∷ Continue 5 ∷ Continue 8 ∷ Continue 100 ∷ []) (Brought 44 ∷ Begun ∷ went 5 Paused ∷ went 8 Paused ∷ went 5 ended ∷ []) after
+    × Plays (fresh 40 99) (bring duty ∷ Begin ∷ Continue 100 ∷ []) (Ok (Brought 44) ∷ Ok Begun ∷ went 18 ended ∷ []) after
+    × Plays (fresh 40 99) (bring duty ∷ Begin ∷ Continue 5 ∷ Continue 8 ∷ Continue 100 ∷ []) (Ok (Brought 44) ∷ Ok Begun ∷ went 5 Paused ∷ went 8 Paused ∷ went 5 ended ∷ []) after
     × Plays (fresh 40 99)
     (Begin ∷ bring duty ∷ Continue 5 ∷ Begin ∷ Continue 5 ∷ Continue 1000001 ∷ bring (1 ∷ 2 ∷ 3 ∷ []) ∷ Continue 100 ∷ [])
-    (turned_down (causes.Begin begins.Blank) ∷ Brought 44 ∷ turned_down (causes.Continue continues.NotBegun) ∷ Begun ∷ went 5 Paused ∷ turned_down (causes.Continue continues.Allowance) ∷ turned_down causes.Bring ∷ went 13 ended ∷ [])
+    (turned_down (causes.Begin begins.Blank) ∷ Ok (Brought 44) ∷ turned_down (causes.Continue continues.NotBegun) ∷ Ok Begun ∷ went 5 Paused ∷ turned_down (causes.Continue continues.Allowance) ∷ turned_down causes.Bring ∷ went 13 ended ∷ [])
     after
 
 -- A begin with too few cells is turned down, and leaves all as it was
 abbrev pub TooFewCells : Type 0
 TooFewCells =
     (after : World)
-    × Plays (fresh 5 99) (bring duty ∷ []) (Brought 44 ∷ []) after
-    × Plays (fresh 5 99) (bring duty ∷ Begin ∷ []) (Brought 44 ∷ turned_down (causes.Begin begins.CellCount) ∷ []) after
+    × Plays (fresh 5 99) (bring duty ∷ []) (Ok (Brought 44) ∷ []) after
+    × Plays (fresh 5 99) (bring duty ∷ Begin ∷ []) (Ok (Brought 44) ∷ turned_down (causes.Begin begins.CellCount) ∷ []) after
 
 -- a second run on what the first left
 abbrev pub twice : List Call
 twice = bring duty ∷ Begin ∷ Continue 100 ∷ Begin ∷ Continue 7 ∷ Continue 100 ∷ Continue 100 ∷ Clear ∷ []
 
-abbrev pub twice_told : List Answer
-twice_told = Brought 44 ∷ Begun ∷ went 18 ended ∷ Begun ∷ went 7 Paused ∷ went 11 ended ∷ went 0 ended ∷ Cleared ∷ []
+abbrev pub twice_told : List Answered
+twice_told = Ok (Brought 44) ∷ Ok Begun ∷ went 18 ended ∷ Ok Begun ∷ went 7 Paused ∷ went 11 ended ∷ went 0 ended ∷ Ok Cleared ∷ []
 
 -- Neither old numbers nor a first run make a difference to a second; both are charged
 abbrev pub LeftoversMakeNoDifference : Type 0

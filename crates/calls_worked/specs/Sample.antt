@@ -1,5 +1,5 @@
 -- A list of calls on a new area whose memory holds old numbers, worked out by hand. Assumes nothing.
-use Rattle.std.specs.Prelude.{◌≡◌, ℕ, cond, List, [], ◌∷◌, ◌++◌, replicate, pos, Some, None, ◌==◌, nat_lt}
+use Rattle.std.specs.Prelude.{◌≡◌, ℕ, cond, List, [], ◌∷◌, ◌++◌, replicate, pos, Some, None, Ok, Err, ◌==◌, nat_lt}
 use Rattle.language.specs.declared.faults.Cause.{Cause}
 use Rattle.language.specs.declared.faults.Cause.TheVariants as causes
 use Rattle.language.specs.declared.faults.BeginRefusal.TheVariants as begins
@@ -15,8 +15,8 @@ use Rattle.engine.specs.declared.record.Stage.TheVariants.{Blank}
 use Rattle.engine.specs.Calls.{Area, area}
 use Rattle.calls.specs.declared.call.Call.{Call}
 use Rattle.calls.specs.declared.call.Call.TheVariants.{Admit, Bring, Begin, Continue, Clear}
-use Rattle.calls.specs.declared.call.Answer.{Answer}
-use Rattle.calls.specs.declared.call.Answer.TheVariants.{Admitted, Begun, Continued, Cleared, Refused}
+use Rattle.calls.specs.declared.call.Answer.TheVariants.{Admitted, Begun, Continued, Cleared}
+use Rattle.calls.specs.Called.{Answered}
 use Rattle.calls.specs.History.{Entry, History, RunOf, OneHost, allowances, steps, outcome}
 
 -- a host with two accounts and an amount in field 0
@@ -34,19 +34,23 @@ admit table = Admit (record { ref_ptr = (0, 0); now = table })
 abbrev pub bring : List ℕ → Call
 bring words = Bring (record { ref_ptr = (0, 0); now = words })
 
--- a new area of 20 words and 12 cells, all holding an old number
+-- a new area of so many words and so many cells, all holding an old number
+abbrev pub untouched : ℕ → ℕ → ℕ → Area
+untouched words room old = area (replicate words old) (replicate room (cells.Number (pos old))) Blank
+
+-- one of 20 words and 12 cells
 abbrev pub fresh : Area
-fresh = area (replicate 20 99) (replicate 12 (cells.Number (pos 99))) Blank
+fresh = untouched 20 12 99
 
 -- a call and its answer; the host is the same before and after, as nothing is posted
-abbrev pub made : Call → Answer → Entry
+abbrev pub made : Call → Answered → Entry
 made c a = record { call = c; found = declaration; answer = a; left = declaration }
 
-abbrev pub turned_down : Cause → Answer
-turned_down cause = Refused (record { cause = cause; place = 0 })
+abbrev pub turned_down : Cause → Answered
+turned_down cause = Err (record { cause = cause; place = 0 })
 
-abbrev pub went : ℕ → Outcome → Answer
-went count out = Continued (record { steps = count; outcome = out })
+abbrev pub went : ℕ → Outcome → Answered
+went count out = Ok (Continued (record { steps = count; outcome = out }))
 
 abbrev pub seven : Outcome
 seven = Finished (Some (Number (pos 7)))
@@ -57,14 +61,14 @@ earlier = made Begin (turned_down (causes.Begin begins.Blank)) ∷ made (bring (
 
 -- the rule set is 1 + 2 * 3
 abbrev pub admitted : Entry
-admitted = made (admit sum_table) (Admitted 16)
+admitted = made (admit sum_table) (Ok (Admitted 16))
 
 -- a continue before the begin
 abbrev pub between : List Entry
 between = made (Continue 5) (turned_down (causes.Continue continues.NotBegun)) ∷ []
 
 abbrev pub begun : Entry
-begun = made Begin Begun
+begun = made Begin (Ok Begun)
 
 -- the run: in pieces, with an allowance that is too large and a table that is none between them, and on after its end
 abbrev pub since : List Entry
@@ -77,7 +81,7 @@ since =
     []
 
 abbrev pub rest : List Entry
-rest = made Clear Cleared ∷ []
+rest = made Clear (Ok Cleared) ∷ []
 
 abbrev pub sample : List Entry
 sample = earlier ++ admitted ∷ (between ++ begun ∷ (since ++ rest))

@@ -1,4 +1,5 @@
 // Lists of calls worked out by hand, which the definitions of the calls must come to. No code of the engine runs here.
+// Stays one function for each promise: the documents name a promise by its function, and one with many clauses would be no plainer.
 #![tactic(auto)]
 
 ghost use Rattle.calls_worked.specs.Cases as cases;

@@ -1,10 +1,8 @@
 -- What admit answers and leaves, by the verdict on its table; and that it admits just what has a type. Assumes nothing.
-use Rattle.std.proofs.Common.{◌≡◌, ℕ, ◌+◌, ◌*◌, ◌<◌, ◌≤◌, cond, List, ◌∷◌, ◌++◌, map, length, drop, Ok, Err, Result, sym, refl, ap, ◌∙◌, subst, arith, length-append}
+use Rattle.std.proofs.Common.{◌≡◌, ℕ, ◌+◌, ◌*◌, ◌<◌, ◌≤◌, List, ◌∷◌, ◌++◌, map, length, drop, Ok, Err, Result, sym, refl, ap, ◌∙◌, subst, arith, length-append}
 use mathlib.Core.List.{map-map}
 use Rattle.std.proofs.lemmas.List.{length-map}
-use Rattle.std.proofs.lemmas.Bool.{le-leb, lt-leb}
 use Rattle.language.specs.declared.faults.Fault.{Fault}
-use Rattle.language.specs.declared.faults.Cause.TheVariants.{Buffer}
 use Rattle.language.specs.declared.values.ValueType.{ValueType}
 use Rattle.language.specs.Numbers.{type_number}
 use Rattle.rules.specs.Resolved.{Rules}
@@ -19,29 +17,12 @@ use Rattle.verdict.proofs.Declared.{accepts-typed}
 use Rattle.verdict.proofs.Typed.{typed-accepted}
 use Rattle.admission.specs.Judged.{Verdict, Judged, walked}
 use Rattle.admission.proofs.Verdicts.{one-verdict, accepted-walk}
-use Rattle.engine.specs.declared.record.Stage.{Stage}
-use Rattle.engine.specs.Calls.{Area, LeftArea, holding, refused, told}
-use Rattle.engine.specs.Admit.{image_of, known_of, admitting, AdmitGave, Typed, AdmitsJustTyped}
+use Rattle.engine.specs.Admit.{image_of, Typed, AdmitsJustTyped}
 
 -- an image has two words more than twice its codes
 pub image-length : (t : ValueType) (code : List Instr) → length (image_of t code) ≡ 2 + 2 * length code
 image-length t code =
     omega (arith, length-append (map (λ (i : Instr). i.code) code) (map (λ (i : Instr). i.operand) code), length-map code (λ (i : Instr). i.code), length-map code (λ (i : Instr). i.operand))
-
-module _ (table : List Node) (old : Area) where
-  pub admit-refused : (f : Fault) → Judged table (Err f) → AdmitGave table old (Err f) old.words old.cells old.stage
-  admit-refused f j = (Err f, j, refl, (refl, refl, refl))
-
-  module _ (t : ValueType) (code : List Instr) (j : Judged table (Ok (t, code))) where
-    pub admit-full : length old.words < length (image_of t code) → AdmitGave table old (refused Buffer) old.words old.cells old.stage
-    admit-full h =
-        let e : admitting (Ok (t, code)) old ≡ refused Buffer = ap (λ b. cond b (Ok (holding (image_of t code) (known_of t code) old)) (refused Buffer)) (lt-leb (length (image_of t code)) (length old.words) h) in
-        (Ok (t, code), j, ap (told (length (image_of t code))) (sym e), subst (λ r. LeftArea r old old.words old.cells old.stage) (sym e) (refl, refl, refl))
-
-    pub admit-done : (n : ℕ) (words : List ℕ) (stage : Stage) → length (image_of t code) ≤ length old.words → n ≡ length (image_of t code) → words ≡ image_of t code ++ drop (length (image_of t code)) old.words → stage ≡ (holding (image_of t code) (known_of t code) old).stage → AdmitGave table old (Ok n) words old.cells stage
-    admit-done n words stage h e w s =
-        let a : admitting (Ok (t, code)) old ≡ Ok (holding (image_of t code) (known_of t code) old) = ap (λ b. cond b (Ok (holding (image_of t code) (known_of t code) old)) (refused Buffer)) (le-leb (length (image_of t code)) (length old.words) h) in
-        (Ok (t, code), j, ap Ok e ∙ ap (told (length (image_of t code))) (sym a), subst (λ r. LeftArea r old words old.cells stage) (sym a) (w, refl, s))
 
 -- a program resolves to rules of its type
 pub result-is : (p : Program) (t : ValueType) (r : Rules) → IsTyped p t r → r.result ≡ t
@@ -80,8 +61,8 @@ module _ (table : List Node) (before : List ℕ) where
   typed-refused f j r = let e = typed-verdict table r (Err f) j in let z : ◌≡◌ {A = ℕ} 0 1 = cc in absurd (omega arith)
 
   module _ (t : ValueType) (code : List Instr) (j : Judged table (Ok (t, code))) where
-    pub typed-full : (f : Fault) → length before < length (image_of t code) → AdmitsJustTyped table before (Err f) before
-    typed-full f h r = subst (λ ws. length before < length ws) (typed-image table r t code j) h
+    pub typed-full : length before < length (image_of t code) → (r : Typed table) → length before < length (image r.rules)
+    typed-full h r = subst (λ ws. length before < length ws) (typed-image table r t code j) h
 
     pub typed-done : (n : ℕ) (after : List ℕ) → n ≡ length (image_of t code) → n ≤ length before → after ≡ image_of t code ++ drop (length (image_of t code)) before → AdmitsJustTyped table before (Ok n) after
     typed-done n after e h w =

@@ -1,5 +1,2 @@
-mod Replies
 mod Written
-mod Plays
-pub mod Imaged
 pub mod Admits

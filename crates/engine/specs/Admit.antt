@@ -16,14 +16,7 @@ use Rattle.typing.specs.Rules.{IsTyped}
 use Rattle.walk.specs.declared.codes.Instr.{Instr}
 use Rattle.admission.specs.Judged.{Verdict, Judged}
 use Rattle.engine.specs.declared.record.Stage.{Stage}
-use Rattle.engine.specs.declared.record.admit.Part.{Part}
-use Rattle.engine.specs.declared.record.admit.Part.TheVariants.{Codes, Operands}
 use Rattle.engine.specs.Calls.{Area, LeftArea, and_then, told, written}
-
--- what an instruction has in one part of an image
-abbrev pub part_of : Part → Instr → ℕ
-part_of Codes i = i.code
-part_of Operands i = i.operand
 
 -- the image of code that ends with this type: the number of codes, the number of the type, all codes, then all operands
 abbrev pub image_of : ValueType → List Instr → List ℕ

@@ -36,12 +36,16 @@ abbrev pub and_then : {A B : Type 0} → Result A Fault → (A → Result B Faul
 and_then (Ok a) f = f a
 and_then (Err e) f = Err e
 
+-- what the record remembers of an image: what is known of it, and the lengths of buffer and cells
+abbrev pub known_lengths : Accepted → ℕ → ℕ → Loaded
+known_lengths image buffer cells = record { image = image; buffer = buffer; cells = cells }
+
 -- an image at the buffer's start, and no more touched; the record remembers the lengths
 abbrev pub holding : List ℕ → Accepted → Area → Area
 holding words image a = record {
   words = words ++ drop (length words) a.words;
   cells = a.cells;
-  stage = Ready (record { image = image; buffer = length a.words; cells = length a.cells });
+  stage = Ready (known_lengths image (length a.words) (length a.cells));
 }
 
 -- the buffer must have room for all words

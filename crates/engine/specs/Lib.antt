@@ -1,4 +1,3 @@
 pub mod Sound
 pub mod Calls
-pub mod Play
 pub mod Admit

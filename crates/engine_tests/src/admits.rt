@@ -24,10 +24,7 @@ fn run(table: &[Node], room: usize) -> Result<Outcome, Fault> {
 
 // The same, with a refusal as its number and its place.
 fn runs(table: &[Node], room: usize) -> Result<Outcome, (u8, u32)> {
-    match run(table, room) {
-        Ok(outcome) => Ok(outcome),
-        Err(fault) => Err((fault.cause.number(), fault.place)),
-    }
+    run(table, room).map_err(|fault| (fault.cause.number(), fault.place))
 }
 
 #[test]

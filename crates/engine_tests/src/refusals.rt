@@ -33,9 +33,7 @@ fn foreign_images(rt: HostRuntime) {
     let mut buffer = [5u32; 20];
     let mut record = Record::new();
     bring_foreign(&rt, &mut record, &mut buffer);
-    for word in buffer.iter() {
-        assert_eq!(rt; *word, 5);
-    }
+    assert_eq!(rt; buffer, [5u32; 20]);
     assert_eq!(rt;
         number(record.begin(&buffer, &mut [Cell::Unset; 9])),
         (31, 0)
@@ -53,9 +51,7 @@ fn short_buffers(rt: HostRuntime) {
         number(record.bring(&mut buffer, &cells, &[20, 1, 22, 0])),
         (33, 0)
     );
-    for word in buffer.iter() {
-        assert_eq!(rt; *word, 5);
-    }
+    assert_eq!(rt; buffer, [5u32; 15]);
     assert_eq!(rt;
         number(record.begin(&buffer, &mut [Cell::Unset; 9])),
         (31, 0)

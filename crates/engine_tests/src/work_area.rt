@@ -1,7 +1,9 @@
 // What accepted calls do, and what they leave untouched.
 use crate::shared::{SUM, nothing_there, number, shown, told};
-use engine::call::{Answer, Call};
+use calls::call::{Answer, Call};
+use calls::play::play;
 use engine::record::Record;
+use language::faults::Fault;
 use machine::cells::Cell;
 
 #[test]
@@ -12,9 +14,7 @@ fn bring_writes_its_words_alone(rt: HostRuntime) {
         number(record.bring(&mut buffer, &[Cell::Unset; 9], &SUM)),
         (0, 0)
     );
-    for k in 0..16 {
-        assert_eq!(rt; buffer[k], SUM[k]);
-    }
+    assert_eq!(rt; &buffer[..16], &SUM[..]);
     assert_eq!(rt; buffer[16], 5);
     assert_eq!(rt; buffer[17], 5);
 }
@@ -41,8 +41,8 @@ fn begin_touches_its_frame_alone(rt: HostRuntime) {
         (1, 99),
         (1, 99),
     ];
-    for k in 0..9 {
-        assert_eq!(rt; shown(cells[k]), expected[k]);
+    for (cell, wanted) in cells.iter().zip(&expected) {
+        assert_eq!(rt; shown(*cell), *wanted);
     }
     assert_eq!(rt;
         told(record.resume(&buffer, &mut cells, &mut nothing_there(), 5)),
@@ -95,14 +95,16 @@ fn stops_and_trouble_end_a_run(rt: HostRuntime) {
     );
 }
 
-// An answer as a number: 1 brought, 2 begun, 3 continued, 4 cleared, and a refusal's own number.
-fn kind(answer: Answer) -> u8 {
+// Stays in numbers: the expected values were written down in them, and tests keep their values.
+// An answer as a number: 0 admitted, 1 brought, 2 begun, 3 continued, 4 cleared, and a refusal's own number.
+fn kind(answer: Result<Answer, Fault>) -> u8 {
     match answer {
-        Answer::Brought(_) => 1,
-        Answer::Begun => 2,
-        Answer::Continued(_) => 3,
-        Answer::Cleared => 4,
-        Answer::Refused(fault) => fault.cause.number(),
+        Ok(Answer::Admitted(_)) => 0,
+        Ok(Answer::Brought(_)) => 1,
+        Ok(Answer::Begun) => 2,
+        Ok(Answer::Continued(_)) => 3,
+        Ok(Answer::Cleared) => 4,
+        Err(fault) => fault.cause.number(),
     }
 }
 
@@ -119,15 +121,19 @@ fn plays_as_many_as_there_are_answers(rt: HostRuntime) {
         Call::Continue(3),
         Call::Clear,
     ];
-    let mut answers = [Answer::Cleared; 4];
+    let mut answers = [Ok(Answer::Cleared); 4];
     assert_eq!(rt;
-        record.play(&mut buffer, &mut cells, &mut host, &calls, &mut answers),
+        play(
+            &mut record,
+            &mut buffer,
+            &mut cells,
+            &mut host,
+            &calls,
+            &mut answers
+        ),
         4
     );
-    let expected = [31, 1, 2, 3];
-    for k in 0..4 {
-        assert_eq!(rt; kind(answers[k]), expected[k]);
-    }
+    assert_eq!(rt; answers.map(kind), [31, 1, 2, 3]);
     assert_eq!(rt;
         told(record.resume(&buffer, &mut cells, &mut host, 9)),
         (3, 1, 7, 0)

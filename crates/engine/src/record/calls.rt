@@ -1,36 +1,22 @@
 // The calls on a work area: bring, begin, resume (which programs call continue) and clear.
-ghost use Rattle.std.specs.Prelude.{◌≡◌, ◌≤◌, true, ◌++◌, length, drop, IfOk};
+ghost use Rattle.std.specs.Prelude.{◌≡◌, true, length, IfOk};
 ghost use Rattle.engine.specs.Sound.{fits, soundly};
-ghost use Rattle.engine.specs.Calls.{LeftArea, LeftResumed, allowed, area, bringing, beginning, loaded, resuming, standing, same_lengths, told};
+ghost use Rattle.engine.specs.Calls.{LeftArea, LeftResumed, allowed, area, bringing, beginning, loaded, resuming, standing, told};
 ghost use Rattle.engine.specs.declared.record.Stage.TheVariants.{Blank};
 
 use crate::record::{Loaded, Record, Stage};
 use host::Host;
 use image::accept::accept;
+use image::fetch::Image;
 use language::faults::{BeginRefusal, Cause, ContinueRefusal, Fault};
 use machine::cells::Cell;
+use machine::context::Context;
 use machine::registers::{Machine, Outcome, Ran};
 
 // The most steps that one call may take.
 pub const MOST_STEPS: u32 = 1_000_000;
 
-// A call that is turned down names no place.
-pub(crate) fn refusal(cause: Cause) -> Fault
-    ensures { result ≡ record { cause = cause; place = 0 } }
-{
-    Fault { cause, place: 0 }
-}
-
-// Writes words at the buffer's start.
-fn write(buffer: &mut [u32], words: &[u32])
-    requires { length words.now ≤ length buffer.old }
-    ensures { buffer.new ≡ words.now ++ drop (length words.now) buffer.old }
-{
-    for k in 0..words.len() {
-        buffer[k] = words[k];
-    }
-}
-
+// Stays a row of parameters, `buffer`, `cells` and `host`: memory is lent anew with each call, and each call lends only what it touches.
 impl Record {
     // A new record: nothing in the area.
     pub fn new() -> Record
@@ -60,15 +46,10 @@ impl Record {
     {
         let image = accept(words)?;
         if buffer.len() < words.len() {
-            return Err(refusal(Cause::Buffer));
+            return Err(Cause::Buffer.into());
         }
-        let loaded = Loaded {
-            image,
-            buffer: buffer.len(),
-            cells: cells.len(),
-        };
-        write(buffer, words);
-        self.stage = Stage::Ready(loaded);
+        buffer[..words.len()].copy_from_slice(words);
+        self.stage = Stage::Ready(Loaded::new(image, buffer, cells));
         Ok(words.len())
     }
 
@@ -78,16 +59,12 @@ impl Record {
         ensures after { LeftArea (beginning (area buffer.now cells.old self.old.stage)) (area buffer.now cells.old self.old.stage) buffer.now cells.new self.new.stage }
     {
         let loaded = self.stage.loaded()?;
-        if !loaded.same_lengths(buffer.len(), cells.len()) {
-            return Err(refusal(Cause::Begin(BeginRefusal::OtherLengths)));
+        if !loaded.same_lengths(buffer, cells) {
+            return Err(BeginRefusal::OtherLengths.into());
         }
-        match Machine::begin(loaded.image.others, cells) {
-            Err(reason) => Err(refusal(Cause::Begin(reason))),
-            Ok(machine) => {
-                self.stage = Stage::Running(loaded, machine);
-                Ok(())
-            }
-        }
+        let machine = Machine::begin(loaded.image.others, cells)?;
+        self.stage = Stage::Running(loaded, machine);
+        Ok(())
     }
 
     // Goes on with a run, or answers once more how it ended.
@@ -101,17 +78,20 @@ impl Record {
         ensures { LeftResumed (resuming allowance (H.means host.old) (area buffer.now cells.old self.old.stage)) result (area buffer.now cells.old self.old.stage) (H.means host.old) buffer.now cells.new self.new.stage (H.means host.new) }
     {
         match self.stage {
-            Stage::Blank => Err(refusal(Cause::Continue(ContinueRefusal::NotBegun))),
-            Stage::Ready(_) => Err(refusal(Cause::Continue(ContinueRefusal::NotBegun))),
+            Stage::Blank | Stage::Ready(_) => Err(ContinueRefusal::NotBegun.into()),
             Stage::Running(loaded, machine) => {
-                loaded.allow(buffer.len(), cells.len(), allowance)?;
-                let mut machine = machine;
-                let ran = machine.run(buffer, loaded.image.header, cells, host, allowance);
-                self.stage = loaded.standing(ran.outcome, machine);
+                loaded.allow(buffer, cells, allowance)?;
+                let image = Image {
+                    words: buffer,
+                    header: loaded.image.header,
+                };
+                let mut context = Context { machine, cells };
+                let ran = context.run(image, host, allowance);
+                self.stage = loaded.standing(ran.outcome, context.machine);
                 Ok(ran)
             }
             Stage::Ended(loaded, outcome) => {
-                loaded.allow(buffer.len(), cells.len(), allowance)?;
+                loaded.allow(buffer, cells, allowance)?;
                 Ok(Ran { steps: 0, outcome })
             }
         }
@@ -119,22 +99,15 @@ impl Record {
 }
 
 impl Loaded {
-    // Whether buffer and cells have the lengths that they had when the image was written.
-    fn same_lengths(self, buffer: usize, cells: usize) -> bool
-        ensures { result ≡ same_lengths self buffer cells }
-    {
-        self.buffer == buffer && self.cells == cells
-    }
-
     // Whether a run may go on: the lengths, then the allowance.
-    fn allow(self, buffer: usize, cells: usize, allowance: u32) -> Result<(), Fault>
-        ensures { result ≡ allowed self buffer cells allowance }
+    fn allow(&self, buffer: &[u32], cells: &[Cell], allowance: u32) -> Result<(), Fault>
+        ensures { result ≡ allowed self.now (length buffer.now) (length cells.now) allowance }
     {
         if !self.same_lengths(buffer, cells) {
-            return Err(refusal(Cause::Continue(ContinueRefusal::OtherLengths)));
+            return Err(ContinueRefusal::OtherLengths.into());
         }
         if allowance > MOST_STEPS {
-            return Err(refusal(Cause::Continue(ContinueRefusal::Allowance)));
+            return Err(ContinueRefusal::Allowance.into());
         }
         Ok(())
     }
@@ -145,8 +118,7 @@ impl Loaded {
     {
         match outcome {
             Outcome::Paused => Stage::Running(self, machine),
-            Outcome::Finished(value) => Stage::Ended(self, Outcome::Finished(value)),
-            Outcome::Halted(halt, place) => Stage::Ended(self, Outcome::Halted(halt, place)),
+            ended => Stage::Ended(self, ended),
         }
     }
 }
@@ -158,10 +130,10 @@ impl Stage {
         ensures sound { soundly self ≡ true → IfOk result (λ l. fits l ≡ true) }
     {
         match self {
-            Stage::Blank => Err(refusal(Cause::Begin(BeginRefusal::Blank))),
-            Stage::Ready(loaded) => Ok(loaded),
-            Stage::Running(loaded, _) => Ok(loaded),
-            Stage::Ended(loaded, _) => Ok(loaded),
+            Stage::Blank => Err(BeginRefusal::Blank.into()),
+            Stage::Ready(loaded) | Stage::Running(loaded, _) | Stage::Ended(loaded, _) => Ok(
+                loaded,
+            ),
         }
     }
 }

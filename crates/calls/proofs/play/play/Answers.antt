@@ -1,4 +1,6 @@
-use Rattle.std.proofs.Common.{◌<◌, length, arith}
+use Rattle.std.proofs.Common.{◌<◌, subst, arith, length-take-le}
+use Rattle.std.proofs.lemmas.List.{get_or-take}
+use Rattle.calls.specs.Called.{Called}
 use Rattle.calls.specs.Played.{world_of}
 use Rattle.calls.proofs.Plays.{wrote-more, all-wrote, carries-on}
 use Rattle.calls.proofs.Found.{can-go-on}
@@ -8,13 +10,15 @@ use Rattle.calls.proofs.play.play.Goals as goal
 
 pub loop-k-preserved : goal.loop-k-preserved
 loop-k-preserved g c =
-    let h : c.loop-k.k < length c.args.calls.now = omega arith in
-    let o : c.loop-k.k < length c.args.answers.now = omega arith in
-    wrote-more c.args.calls.now c.loop-k.k _ (world_of c.args.buffer.now c.args.cells.now c.args.work.now.stage (g.H.Host.means c.args.host.now))
-    (world_of c.loop-k.buffer c.loop-k.cells c.loop-k.work.stage (g.H.Host.means c.loop-k.host)) _ c.args.answers.now c.loop-k.answers c.one.result h o c.loop-k.invariant c.one.ensures
+    let size = length-take-le c.min-count.result c.args.calls.now (omega arith) in
+    let h : c.loop-k.k < c.min-count.result = omega arith in
+    let here = world_of c.loop-k.buffer c.loop-k.cells c.loop-k.work.stage (g.H.Host.means c.loop-k.host) in
+    let next = world_of c.one.new.buffer c.one.new.cells c.one.new.work.stage (g.H.Host.means c.one.new.host) in
+    wrote-more c.args.calls.now c.loop-k.k _ _ here next _ c.loop-k.answers c.one.result (omega arith) (omega arith) c.loop-k.invariant
+    (subst (λ x. Called x here c.one.result next) (get_or-take c.min-count.result c.args.calls.now c.loop-k.k _ h) c.one.ensures)
 
 pub returns : goal.returns
-returns g c = record {
+returns g c = let size = length-take-le c.min-count.result c.args.calls.now (omega arith) in record {
   count = c.min-count.ensures;
   wrote = all-wrote _ c.loop-k.k c.min-count.result _ _ _ _ (omega arith) c.loop-k.invariant;
   onward = carries-on;

@@ -1,5 +1,0 @@
-use Rattle.std.proofs.Common.{refl}
-use Rattle.engine_worked.proofs.lists_as_worked_out.Goals as goal
-
-pub returns : goal.returns
-returns c = (refl, refl, refl, refl, refl, refl, refl, refl, refl, refl, refl)
