@@ -1,5 +1,5 @@
 // Inputs, line by line.
-use crate::reading::{Input, read_line};
+use crate::reading::read_line;
 use crate::session::Session;
 use crate::steps::trace;
 use anyhow::anyhow;
@@ -10,30 +10,29 @@ use std::env;
 use std::fs::File;
 use std::io::{BufRead, BufReader};
 
-fn print_problem(rt: &HostRuntime, number: u64, problem: Problem) -> anyhow::Result<()> {
-    println!(rt; "error: line {number}: {problem}")?;
-    Ok(())
-}
-
 // Answers one line.
-fn answer(rt: &HostRuntime, session: &mut Session, number: u64, text: &[u8]) -> anyhow::Result<()> {
+// Stays a Result in a Result, with matches: a problem is told and the next line read, another error ends the program, and `?` hands on one of the two.
+fn answer(
+    rt: &HostRuntime,
+    session: &mut Session,
+    text: &[u8],
+) -> anyhow::Result<Result<(), Problem>> {
     let line = match parse(rt.alloc(), text) {
-        Err(problem) => return print_problem(rt, number, problem),
-        Ok(None) => return Ok(()),
         Ok(Some(line)) => line,
+        Ok(None) => return Ok(Ok(())),
+        Err(problem) => return Ok(Err(problem)),
     };
-    if let Command::Trace(steps) = line.command {
+    if let Command::Trace { steps } = line.command {
         if session.has_host() {
-            return trace(rt, session, steps);
+            trace(rt, session, steps)?;
+            return Ok(Ok(()));
         }
     }
     match session.answer(&line) {
-        Err(problem) => print_problem(rt, number, problem),
-        Ok(text) => {
-            println!(rt; "{text}")?;
-            Ok(())
-        }
+        Ok(text) => println!(rt; "{text}")?,
+        Err(problem) => return Ok(Err(problem)),
     }
+    Ok(Ok(()))
 }
 
 // Answers all lines of an input.
@@ -44,36 +43,35 @@ fn answer_all<B: BufRead>(
 ) -> anyhow::Result<()> {
     let mut line = Vec::new(rt.alloc());
     for number in 1..u64::MAX {
-        match read_line(reader, &mut line)? {
-            Input::End => break,
-            Input::TooLong => print_problem(rt, number, Problem::LongLine)?,
-            Input::Line => answer(rt, session, number, line.as_slice())?,
+        let Some(kept) = read_line(reader, &mut line)? else {
+            break;
+        };
+        let answered = match kept {
+            Ok(text) => answer(rt, session, text)?,
+            Err(problem) => Err(problem),
+        };
+        if let Err(problem) = answered {
+            println!(rt; "error: line {number}: {problem}")?;
         }
     }
     Ok(())
 }
 
 fn answer_file(rt: &HostRuntime, session: &mut Session, path: &str) -> anyhow::Result<()> {
-    match File::open(rt, path) {
-        Err(error) => Err(anyhow!(format!(in rt.alloc(); "cannot read {path}: {error}")?)),
-        Ok(file) => answer_all(rt, session, &mut BufReader::new(rt.alloc(), file)?),
-    }
+    let file = File::open(rt, path).map_err(|error| anyhow!("cannot read {path}: {error}"))?;
+    answer_all(rt, session, &mut BufReader::new(rt.alloc(), file)?)
 }
 
 // Answers standard input, or the files named as arguments in order.
 pub fn run(rt: &HostRuntime) -> anyhow::Result<()> {
     let mut session = Session::new(rt.alloc());
-    let mut has_files = false;
-    for path in env::args(rt)?.skip(1) {
-        has_files = true;
+    let paths = env::args(rt)?.skip(1);
+    if paths.len() == 0 {
+        let mut input = BufReader::new(rt.alloc(), rt.stdin())?;
+        return answer_all(rt, &mut session, &mut input);
+    }
+    for path in paths {
         answer_file(rt, &mut session, path.as_str())?;
     }
-    if has_files {
-        return Ok(());
-    }
-    answer_all(
-        rt,
-        &mut session,
-        &mut BufReader::new(rt.alloc(), rt.stdin())?,
-    )
+    Ok(())
 }

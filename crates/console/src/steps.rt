@@ -1,18 +1,12 @@
 // Runs shown step by step.
 use crate::session::Session;
-use crate::texts::answer_text;
-use crate::traced::{instruction_text, working_text};
-use engine::call::{Answer, Call};
+use crate::texts::{Reply, Spaced};
+use crate::traced::{Instruction, working};
+use calls::call::{Answer, Call};
 use engine::record::calls::MOST_STEPS;
 use engine::record::{Loaded, Stage};
+use language::faults::Fault;
 use machine::registers::{Machine, Outcome, Ran};
-
-// How a run stands at a step.
-#[derive(Clone, Copy)]
-enum Next {
-    Goes(Ran),
-    Is(Answer),
-}
 
 // The instruction at the counter, and the working values that its step left.
 fn print_step(
@@ -21,62 +15,53 @@ fn print_step(
     loaded: Loaded,
     before: Machine,
 ) -> anyhow::Result<()> {
-    let heap = rt.alloc();
     let after = match session.stage() {
         Stage::Running(_, machine) => machine,
         Stage::Blank | Stage::Ready(_) | Stage::Ended(_, _) => before,
     };
     let counter = before.counter;
-    let instruction = instruction_text(heap, session.buffer(), loaded.image.header, counter)?;
-    let values = working_text(heap, after, session.cells())?;
+    let instruction = Instruction::at(session.buffer(), loaded.image.header, counter);
+    let values = Spaced(working(after, session.cells()));
     println!(rt; "{counter}: {instruction} ->{values}")?;
     Ok(())
 }
 
 // One step of a run that can go on, printed if it was carried out.
-fn step(rt: &HostRuntime, session: &mut Session) -> anyhow::Result<Next> {
+fn step(rt: &HostRuntime, session: &mut Session) -> anyhow::Result<Result<Answer, Fault>> {
     let stage = session.stage();
-    let answer = session.play(&[Call::Continue(1)]);
-    let Stage::Running(loaded, machine) = stage else {
-        return Ok(Next::Is(answer));
-    };
-    let Answer::Continued(ran) = answer else {
-        return Ok(Next::Is(answer));
-    };
-    if ran.steps > 0 {
-        print_step(rt, session, loaded, machine)?;
+    let answer = session.play(Call::Continue(1));
+    if let (Stage::Running(loaded, machine), Ok(Answer::Continued(ran))) = (stage, answer) {
+        if ran.steps > 0 {
+            print_step(rt, session, loaded, machine)?;
+        }
     }
-    Ok(Next::Goes(ran))
+    Ok(answer)
 }
 
 // Continues a run one step at a time. What `continue` refuses is refused here.
 pub fn trace(rt: &HostRuntime, session: &mut Session, most: u32) -> anyhow::Result<()> {
-    let mut answer = if most > MOST_STEPS {
-        session.play(&[Call::Continue(u32::MAX)])
-    } else {
-        session.play(&[Call::Continue(0)])
-    };
+    let first = if most > MOST_STEPS { u32::MAX } else { 0 };
+    let mut answer = session.play(Call::Continue(first));
     let mut steps: u32 = 0;
     for _ in 0..most {
-        match answer {
+        let Ok(
             Answer::Continued(
                 Ran {
-                    steps: _,
                     outcome: Outcome::Paused,
+                    ..
                 },
-            ) => {}
-            _ => break,
-        }
-        match step(rt, session)? {
-            Next::Is(other) => answer = other,
-            Next::Goes(ran) => {
-                steps = steps.saturating_add(ran.steps);
-                let outcome = ran.outcome;
-                answer = Answer::Continued(Ran { steps, outcome });
-            }
+            ),
+        ) = answer
+        else {
+            break;
+        };
+        answer = step(rt, session)?;
+        if let Ok(Answer::Continued(ran)) = answer {
+            steps = steps.saturating_add(ran.steps);
+            answer = Ok(Answer::Continued(Ran { steps, ..ran }));
         }
     }
-    let text = answer_text(rt.alloc(), "trace", answer)?;
-    println!(rt; "{text}")?;
+    let reply = Reply(answer);
+    println!(rt; "trace: {reply}")?;
     Ok(())
 }

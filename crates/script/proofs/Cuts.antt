@@ -1,6 +1,5 @@
 -- A line cut before and after its first word. Assumes nothing.
 use Rattle.std.proofs.Common.{◌≡◌, ℕ, zero, suc, ◌<◌, ◌≤◌, Bool, true, false, cond, eqb, List, [], ◌∷◌, ◌++◌, length, get_or, take, drop, sym, refl, ap, ◌∙◌, append_assoc, append-nil, suc-le-suc, add-zero, arith, length-drop, get_or-drop, true-eqb, false-eqb}
-use borrow.Author.Tests.{ne_false}
 use Rattle.script.specs.Words.{blank, closed, words, words_from}
 
 -- what a byte's kind makes of the words
@@ -77,8 +76,3 @@ some_byte m zero bs t is some begins stops =
     let long : 0 < length t = omega (arith, false-eqb (length t) 0 some) in
     absurd (stops long (begins-so m bs t is long begins))
 some_byte m (suc n) bs t is some begins stops = omega arith
-
--- a text of no bytes begins with none
-pub nothing-first : (bs : List ℕ) (b : ℕ) → true ≡ eqb (length bs) 0 → 0 < b → false ≡ eqb (get_or bs 0 0) b
-nothing-first [] b e h = ne_false 0 b (λ same. omega arith)
-nothing-first (x ∷ bs) b e h = absurd (omega (arith, true-eqb (length (x ∷ bs)) 0 e))

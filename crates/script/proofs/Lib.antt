@@ -2,3 +2,4 @@ mod Cuts
 mod Digits
 mod Lists
 mod Fives
+mod Named

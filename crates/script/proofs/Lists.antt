@@ -9,10 +9,6 @@ abbrev pub before : List ℕ → Result (List ℕ) Problem → Result (List ℕ)
 before ns (Ok ms) = Ok (ns ++ ms)
 before ns (Err e) = Err e
 
-pub none_yet : (r : Result (List ℕ) Problem) → r ≡ before [] r
-none_yet (Ok ms) = refl
-none_yet (Err e) = refl
-
 joined : (ns : List ℕ) (n : ℕ) (r : Result (List ℕ) Problem) → before ns (and_then r (λ ms. Ok (n ∷ ms))) ≡ before (ns ++ n ∷ []) r
 joined ns n (Ok ms) = ap Ok (sym (append_assoc ns (n ∷ []) ms))
 joined ns n (Err e) = refl

@@ -1,15 +1,14 @@
 -- What the words of a line ask for. Assumes nothing.
-use Rattle.std.specs.Prelude.{◌≡◌, ℕ, Bool, true, false, cond, ◌⊎◌, List, [], ◌∷◌, ℤ, pos, Some, None, Ok, Err, vec_items, codes, Option, Result, ◌==◌, nat_le, slice_index}
-use Rattle.std.specs.Borrow.{Bor}
+use Rattle.std.specs.Prelude.{◌≡◌, ℕ, Bool, true, false, cond, ◌⊎◌, List, [], ◌∷◌, ℤ, pos, Some, None, Ok, Err, vec_items, codes, Option, Result, ok_or, ◌==◌, slice_index}
 use Rattle.std.specs.Str.{bytes_eq}
 use Rattle.script.specs.declared.problem.Problem.{Problem}
-use Rattle.script.specs.declared.problem.Problem.TheVariants.{UnknownWord, NotAvailable, MissingNumber, TooManyWords, NotFlag, NoMemory}
+use Rattle.script.specs.declared.problem.Problem.TheVariants.{UnknownWord, NotAvailable, MissingNumber, TooManyWords, NoMemory}
 use Rattle.script.specs.declared.command.Verb.{Verb}
 use Rattle.script.specs.declared.command.Verb.TheVariants as verbs
 use Rattle.script.specs.declared.command.Command.{Command}
 use Rattle.script.specs.declared.command.Command.TheVariants.{Area, Record, Worksheet, Amount, Flag, Bring, Begin, Continue, Clear, Image, Totals, State, Trace}
 use Rattle.script.specs.declared.command.Line.{Line}
-use Rattle.script.specs.Numbers.{and_then, signed_of, word_of}
+use Rattle.script.specs.Numbers.{and_then, flag_of, signed_of, word_of}
 use Rattle.script.specs.Words.{words}
 
 -- the command that a word names
@@ -35,10 +34,10 @@ verb_of w =
 abbrev pub Read : Type 0 → Type 0
 Read A = Result (A × List (List ℕ)) Problem
 
--- the code read this, and the text after it
-abbrev pub Took : {A : Type 0} → Result (A × Bor (List ℕ)) Problem → Read A → Type 0
-Took (Ok p) s = s ≡ Ok (p.0, words p.1.now)
-Took (Err e) s = s ≡ Err e
+-- the code read this, and left these words
+abbrev pub Took : {A : Type 0} → Result A Problem → List (List ℕ) → Read A → Type 0
+Took (Ok a) ws s = s ≡ Ok (a, ws)
+Took (Err e) ws s = s ≡ Err e
 
 -- a word of 32 bits
 abbrev pub one_word : List (List ℕ) → Read ℕ
@@ -63,9 +62,10 @@ abbrev pub filled : ℕ → ℕ → List (List ℕ) → Read Command
 filled a b [] = Ok (Area a b (pos 0), [])
 filled a b (w ∷ ws) = into (Area a b) (one_signed (w ∷ ws))
 
--- 0 is false, 1 is true
-abbrev pub truth_of : ℕ → Result Bool Problem
-truth_of n = cond (nat_le n 1) (Ok (n == 1)) (Err NotFlag)
+-- a truth value
+abbrev pub one_flag : List (List ℕ) → Read Bool
+one_flag [] = Err MissingNumber
+one_flag (w ∷ ws) = and_then (flag_of w) (λ t. Ok (t, ws))
 
 -- a command with its numbers
 abbrev pub head_of : Verb → List (List ℕ) → Read Command
@@ -73,7 +73,7 @@ head_of verbs.Area ws = two_words ws filled
 head_of verbs.Record ws = two_words ws (λ a b rest. Ok (Record a b, rest))
 head_of verbs.Worksheet ws = two_words ws (λ a b rest. Ok (Worksheet a b, rest))
 head_of verbs.Amount ws = and_then (one_word ws) (λ p. into (Amount p.0) (one_signed p.1))
-head_of verbs.Flag ws = two_words ws (λ a b rest. and_then (truth_of b) (λ t. Ok (Flag a t, rest)))
+head_of verbs.Flag ws = and_then (one_word ws) (λ p. into (Flag p.0) (one_flag p.1))
 head_of verbs.Admit ws = Err NotAvailable
 head_of verbs.Bring ws = Ok (Bring, ws)
 head_of verbs.Begin ws = Ok (Begin, ws)
@@ -114,9 +114,9 @@ no_more (w ∷ ws) = Err TooManyWords
 abbrev pub tail_of : Command → List (List ℕ) → Result (List ℕ) Problem
 tail_of c ws = cond (goes_on c) (all_words ws) (no_more ws)
 
+-- a command, its numbers, and what follows them
 abbrev pub asked : Option Verb → List (List ℕ) → Result (Command × List ℕ) Problem
-asked None ws = Err UnknownWord
-asked (Some v) ws = and_then (head_of v ws) (λ p. and_then (tail_of p.0 p.1) (λ ns. Ok (p.0, ns)))
+asked named ws = and_then (ok_or named UnknownWord) (λ v. and_then (head_of v ws) (λ p. and_then (tail_of p.0 p.1) (λ ns. Ok (p.0, ns))))
 
 -- a line with no word, or whose first begins with #, asks for nothing
 abbrev pub asked_by : List (List ℕ) → Result (Option (Command × List ℕ)) Problem

@@ -1,7 +1,7 @@
 -- The number that a word writes in decimal digits. Assumes nothing.
 use Rattle.std.specs.Prelude.{ℕ, ◌+◌, ◌-◌, ◌*◌, Bool, false, cond, List, [], ◌∷◌, length, drop, ℤ, pos, neg_ℤ, Ok, Err, Result, ◌==◌, nat_le, slice_index}
 use Rattle.script.specs.declared.problem.Problem.{Problem}
-use Rattle.script.specs.declared.problem.Problem.TheVariants.{NotNumber, TooLarge}
+use Rattle.script.specs.declared.problem.Problem.TheVariants.{NotFlag, NotNumber, TooLarge}
 
 abbrev pub digit : ℕ → Bool
 digit b = cond (nat_le 48 b) (nat_le b 57) false
@@ -40,3 +40,11 @@ negative (Err e) = Err e
 -- a number of 32 bits, with a minus before it where it is below 0
 abbrev pub signed_of : List ℕ → Result ℤ Problem
 signed_of bs = cond (slice_index bs 0 == 45) (negative (word_of (drop 1 bs))) (positive (word_of bs))
+
+-- 0 is false, 1 is true
+abbrev pub truth_of : ℕ → Result Bool Problem
+truth_of n = cond (nat_le n 1) (Ok (n == 1)) (Err NotFlag)
+
+-- a truth value, written as 0 or 1
+abbrev pub flag_of : List ℕ → Result Bool Problem
+flag_of bs = and_then (word_of bs) truth_of

@@ -2,7 +2,8 @@
 ghost use Rattle.std.specs.Prelude.{◌≡◌};
 ghost use Rattle.script.specs.declared.problem.Problem.TheVariants.{NoMemory};
 
-use std::alloc::AllocError;
+use std::alloc::{AllocError, AllocFailed};
+use std::error::Error;
 use std::fmt;
 
 #[derive(Clone, Copy, PartialEq, Eq, Debug)]
@@ -21,6 +22,7 @@ pub enum Problem {
     NoMemory,
 }
 
+// In plain words.
 impl Problem {
     // In plain words.
     pub fn text(self) -> &'static str {
@@ -47,11 +49,21 @@ impl fmt::Display for Problem {
     }
 }
 
+impl Error for Problem {}
+
 // Whatever finds no memory is such a problem.
 impl From<AllocError> for Problem {
     ghost from_gives = { λ _ p. p ≡ NoMemory };
 
     fn from(_error: AllocError) -> Problem {
+        Problem::NoMemory
+    }
+}
+
+impl<T: Drop> From<AllocFailed<T>> for Problem {
+    ghost from_gives = { λ _ p. p ≡ NoMemory };
+
+    fn from(_error: AllocFailed<T>) -> Problem {
         Problem::NoMemory
     }
 }

@@ -4,75 +4,87 @@ use script::line::parse;
 use script::problem::Problem;
 use std::alloc::Global;
 
-// A command as numbers: its place in the list, and up to three numbers that it has.
-fn brief(command: Command) -> (u8, u32, u32, i32) {
-    match command {
-        Command::Area(words, cells, fill) => (0, words, cells, fill),
-        Command::Record(accounts, lines) => (1, accounts, lines, 0),
-        Command::Worksheet(accounts, lines) => (2, accounts, lines, 0),
-        Command::Amount(field, value) => (3, field, 0, value),
-        Command::Flag(field, flag) => (4, field, flag as u32, 0),
-        Command::Bring => (5, 0, 0, 0),
-        Command::Begin => (6, 0, 0, 0),
-        Command::Continue(allowance) => (7, allowance, 0, 0),
-        Command::Clear => (8, 0, 0, 0),
-        Command::Image => (9, 0, 0, 0),
-        Command::Totals => (10, 0, 0, 0),
-        Command::State => (11, 0, 0, 0),
-        Command::Trace(steps) => (12, steps, 0, 0),
-    }
+// The command of a line, and how many words follow it.
+type Asked = Result<Option<(Command, usize)>, Problem>;
+
+fn read(heap: Global, text: &[u8]) -> Asked {
+    let line = parse(heap, text)?;
+    Ok(line.map(|line| (line.command, line.words.len())))
 }
 
-// The command of a line and how many words follow it; nothing has the number 99.
-fn read(heap: Global, text: &[u8]) -> Result<((u8, u32, u32, i32), usize), Problem> {
-    match parse(heap, text)? {
-        None => Ok(((99, 0, 0, 0), 0)),
-        Some(line) => Ok((brief(line.command), line.words.len())),
-    }
+// What a line with no words after its command asks for.
+fn alone(command: Command) -> Asked {
+    Ok(Some((command, 0)))
 }
 
 #[test]
 fn nothing_asked(rt: HostRuntime) {
     let heap = rt.alloc();
-    let nothing = Ok(((99, 0, 0, 0), 0));
-    assert_eq!(rt; read(heap, b""), nothing);
-    assert_eq!(rt; read(heap, b" \t \r"), nothing);
-    assert_eq!(rt; read(heap, b"# begin"), nothing);
-    assert_eq!(rt; read(heap, b"#begin"), nothing);
-    assert_eq!(rt; read(heap, b"  # begin"), nothing);
+    assert_eq!(rt; read(heap, b""), Ok(None));
+    assert_eq!(rt; read(heap, b" \t \r"), Ok(None));
+    assert_eq!(rt; read(heap, b"# begin"), Ok(None));
+    assert_eq!(rt; read(heap, b"#begin"), Ok(None));
+    assert_eq!(rt; read(heap, b"  # begin"), Ok(None));
+}
+
+#[test]
+fn areas_and_hosts(rt: HostRuntime) {
+    let heap = rt.alloc();
+    let (words, cells) = (64, 200);
+    let fill = 0;
+    assert_eq!(rt;
+        read(heap, b"area 64 200"),
+        alone(Command::Area { words, cells, fill })
+    );
+    let fill = -5;
+    assert_eq!(rt;
+        read(heap, b"\tarea  64\t200  -5 \r"),
+        alone(Command::Area { words, cells, fill })
+    );
+    let (accounts, lines) = (1, 2);
+    let record = Command::Record { accounts, lines };
+    assert_eq!(rt; read(heap, b"record 1 2"), alone(record));
+    assert_eq!(rt; read(heap, b"record 1 2 3 4 5"), Ok(Some((record, 3))));
+    assert_eq!(rt;
+        read(heap, b"worksheet 1 2"),
+        alone(Command::Worksheet { accounts, lines })
+    );
 }
 
 #[test]
 fn each_command(rt: HostRuntime) {
     let heap = rt.alloc();
-    assert_eq!(rt; read(heap, b"area 64 200"), Ok(((0, 64, 200, 0), 0)));
+    let field = 3;
     assert_eq!(rt;
-        read(heap, b"\tarea  64\t200  -5 \r"),
-        Ok(((0, 64, 200, -5), 0))
+        read(heap, b"amount 3 -4"),
+        alone(Command::Amount { field, value: -4 })
     );
-    assert_eq!(rt; read(heap, b"record 1 2"), Ok(((1, 1, 2, 0), 0)));
-    assert_eq!(rt; read(heap, b"record 1 2 3 4 5"), Ok(((1, 1, 2, 0), 3)));
-    assert_eq!(rt; read(heap, b"worksheet 1 2"), Ok(((2, 1, 2, 0), 0)));
-    assert_eq!(rt; read(heap, b"amount 3 -4"), Ok(((3, 3, 0, -4), 0)));
-    assert_eq!(rt; read(heap, b"flag 3 1"), Ok(((4, 3, 1, 0), 0)));
-    assert_eq!(rt; read(heap, b"flag 3 0"), Ok(((4, 3, 0, 0), 0)));
-    assert_eq!(rt; read(heap, b"bring"), Ok(((5, 0, 0, 0), 0)));
-    assert_eq!(rt; read(heap, b"bring 7 8"), Ok(((5, 0, 0, 0), 2)));
-    assert_eq!(rt; read(heap, b"begin"), Ok(((6, 0, 0, 0), 0)));
+    assert_eq!(rt;
+        read(heap, b"flag 3 1"),
+        alone(Command::Flag { field, flag: true })
+    );
+    assert_eq!(rt;
+        read(heap, b"flag 3 0"),
+        alone(Command::Flag { field, flag: false })
+    );
+    assert_eq!(rt; read(heap, b"bring"), alone(Command::Bring));
+    assert_eq!(rt; read(heap, b"bring 7 8"), Ok(Some((Command::Bring, 2))));
+    assert_eq!(rt; read(heap, b"begin"), alone(Command::Begin));
+    let allowance = 4_294_967_295;
     assert_eq!(rt;
         read(heap, b"continue 4294967295"),
-        Ok(((7, 4_294_967_295, 0, 0), 0))
+        alone(Command::Continue { allowance })
     );
 }
 
 #[test]
 fn the_other_commands(rt: HostRuntime) {
     let heap = rt.alloc();
-    assert_eq!(rt; read(heap, b"clear"), Ok(((8, 0, 0, 0), 0)));
-    assert_eq!(rt; read(heap, b"image"), Ok(((9, 0, 0, 0), 0)));
-    assert_eq!(rt; read(heap, b"totals"), Ok(((10, 0, 0, 0), 0)));
-    assert_eq!(rt; read(heap, b"state"), Ok(((11, 0, 0, 0), 0)));
-    assert_eq!(rt; read(heap, b"trace 6"), Ok(((12, 6, 0, 0), 0)));
+    assert_eq!(rt; read(heap, b"clear"), alone(Command::Clear));
+    assert_eq!(rt; read(heap, b"image"), alone(Command::Image));
+    assert_eq!(rt; read(heap, b"totals"), alone(Command::Totals));
+    assert_eq!(rt; read(heap, b"state"), alone(Command::State));
+    assert_eq!(rt; read(heap, b"trace 6"), alone(Command::Trace { steps: 6 }));
 }
 
 #[test]

@@ -1,33 +1,49 @@
 -- The name of each code, for people. Assumes nothing.
-use Rattle.std.specs.Prelude.{cond, List, ℕ, codes, eqb}
+use Rattle.std.specs.Prelude.{List, ℕ, codes, Some, None, Option}
+use Rattle.language.specs.declared.opcodes.Opcode.{Opcode}
+use Rattle.language.specs.declared.opcodes.Opcode.TheVariants.{PushNumber, PushTruth, Load, Store, Operate, Not, Discard, Jump, JumpIfFalse, OpenLinks, Call, Entry, Return, Amount, Flag, Post, End}
+use Rattle.language.specs.declared.values.Operator.{Operator}
+use Rattle.language.specs.declared.values.Operator.TheVariants.{Multiply, Divide, Add, Subtract, Less, LessOrEqual, Greater, GreaterOrEqual, Equal, And, Or}
+use Rattle.language.specs.Numbers.{opcode_at}
+
+-- the name of an operator
+abbrev pub operator_name : Operator → List ℕ
+operator_name Multiply = codes "multiply"
+operator_name Divide = codes "divide"
+operator_name Add = codes "add"
+operator_name Subtract = codes "subtract"
+operator_name Less = codes "less"
+operator_name LessOrEqual = codes "less or equal"
+operator_name Greater = codes "greater"
+operator_name GreaterOrEqual = codes "greater or equal"
+operator_name Equal = codes "equal"
+operator_name And = codes "and"
+operator_name Or = codes "or"
+
+-- the name of a code
+abbrev pub name : Opcode → List ℕ
+name PushNumber = codes "push number"
+name PushTruth = codes "push truth"
+name Load = codes "load"
+name Store = codes "store"
+name (Operate o) = operator_name o
+name Not = codes "not"
+name Discard = codes "discard"
+name Jump = codes "jump"
+name JumpIfFalse = codes "jump if false"
+name OpenLinks = codes "open links"
+name Call = codes "call"
+name Entry = codes "entry"
+name Return = codes "return"
+name Amount = codes "amount"
+name Flag = codes "flag"
+name Post = codes "post"
+name End = codes "end"
+
+-- the name of the code that a number stands for
+abbrev pub named : Option Opcode → List ℕ
+named (Some o) = name o
+named None = codes "no code"
 
 abbrev pub name_of : ℕ → List ℕ
-name_of code =
-    cond (eqb code 1) (codes "push number")
-    (cond (eqb code 2) (codes "push truth")
-    (cond (eqb code 3) (codes "load")
-    (cond (eqb code 4) (codes "store")
-    (cond (eqb code 5) (codes "multiply")
-    (cond (eqb code 6) (codes "divide")
-    (cond (eqb code 7) (codes "add")
-    (cond (eqb code 8) (codes "subtract")
-    (cond (eqb code 9) (codes "less")
-    (cond (eqb code 10) (codes "less or equal")
-    (cond (eqb code 11) (codes "greater")
-    (cond (eqb code 12) (codes "greater or equal")
-    (cond (eqb code 13) (codes "equal")
-    (cond (eqb code 14) (codes "and")
-    (cond (eqb code 15) (codes "or")
-    (cond (eqb code 16) (codes "not")
-    (cond (eqb code 17) (codes "discard")
-    (cond (eqb code 18) (codes "jump")
-    (cond (eqb code 19) (codes "jump if false")
-    (cond (eqb code 20) (codes "open links")
-    (cond (eqb code 21) (codes "call")
-    (cond (eqb code 22) (codes "entry")
-    (cond (eqb code 23) (codes "return")
-    (cond (eqb code 24) (codes "amount")
-    (cond (eqb code 25) (codes "flag")
-    (cond (eqb code 26) (codes "post")
-    (cond (eqb code 27) (codes "end")
-    (codes "no code")))))))))))))))))))))))))))
+name_of code = named (opcode_at code)

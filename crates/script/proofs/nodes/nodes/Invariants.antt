@@ -2,5 +2,5 @@ use Rattle.std.proofs.Common.{vec_items}
 use Rattle.script.specs.Nodes.{FirstFives}
 use Rattle.script.proofs.nodes.nodes.Given as goal
 
-abbrev pub invariant-loop-k : goal.invariant-loop-k
-invariant-loop-k l = FirstFives l.words l.k (vec_items l.nodes)
+abbrev pub invariant-loop-five : goal.invariant-loop-five
+invariant-loop-five l = FirstFives l.fn.words l.five-index (vec_items l.nodes)
