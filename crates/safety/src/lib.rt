@@ -1,4 +1,5 @@
 // Safety: evaluation of a rule set that the typing rules admit is never in trouble, and what it resolves to is lawful. No code of the engine runs here; its functions name what is proved of the definitions.
+// Stays one function for each promise: the documents name a promise by its function, and one with many clauses would be no plainer.
 #![tactic(auto)]
 
 ghost use Rattle.safety.specs.Safety.{Safe};

@@ -1,4 +1,5 @@
 // The marked machine without what lies above its top. No code of the engine runs here; its functions name what is proved of the two forms.
+// Stays one function for each promise: the documents name a promise by its function, and one with many clauses would be no plainer.
 #![tactic(auto)]
 
 ghost use Rattle.stack.specs.Law.{StepIsTheStacks, StepOfAnyState, RunIsTheStacks, RunOfAnyState, StatesAreWhole, BeginningIsTheStacks, AboveDoesNotMatter, LeftoversDoNotMatter};

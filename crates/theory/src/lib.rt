@@ -1,4 +1,5 @@
 // What is proved of evaluation and of the machine: an image's run is its rule set's evaluation. No code of the engine runs here; each function names in its contract what is proved of the definitions.
+// Stays one function for each promise: the documents name a promise by its function, and one with many clauses would be no plainer.
 #![tactic(auto)]
 
 ghost use Rattle.theory.specs.Runs.{DeeperSame, FinishesAsEvaluated, StopsAsEvaluated, TooDeepRunsOut, EndedStays, SomeAllowanceEnds, EndedAsEvaluated};

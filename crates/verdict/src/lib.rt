@@ -1,4 +1,5 @@
 // What is proved of the walk: it accepts exactly what the typing rules give a type, within the limits, and lays the translation's code. No code of the engine runs here; each function names in its contract what is proved of the definitions.
+// Stays one function for each promise: the documents name a promise by its function, and one with many clauses would be no plainer.
 #![tactic(auto)]
 
 ghost use Rattle.verdict.specs.Verdict.{AcceptsWhatIsTyped, TypedWhereAccepted};
