@@ -9,7 +9,7 @@ use Rattle.table.specs.Tree.{Program}
 use Rattle.table.specs.Layout.{WithinLimits, layout}
 use Rattle.table.specs.Answers.{Sized}
 use Rattle.table.specs.Samples.{sum_tree, sum_table, recursion_tree, recursion_table, one_branch_tree, one_branch_table, two_branches_tree, two_branches_table, unset_argument_tree, unset_argument_table, set_in_body_tree, set_in_body_table, quotient_tree, quotient_table, least_quotient_tree, least_quotient_table, by_zero_tree, by_zero_table, grouped_tree, grouped_table, both_sides_tree, both_sides_table}
-use Rattle.table.proofs.Computed.{samples-laid-out}
+use Rattle.calls_worked.proofs.Computed.{samples-laid-out}
 use Rattle.walk.specs.Programs.{walk_program}
 use Rattle.walk.specs.Sets.{both}
 use Rattle.admission.specs.Judged.{Judged, walked}

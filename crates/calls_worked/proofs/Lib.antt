@@ -1,4 +1,5 @@
 pub mod Worked
+pub mod Computed
 pub mod Folded
 pub mod Listed
 pub mod Cased

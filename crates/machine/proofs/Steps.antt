@@ -7,14 +7,14 @@ use Rattle.language.specs.declared.values.ValueType.{ValueType}
 use Rattle.host.specs.Meaning.{Meaning, asked}
 use Rattle.host.specs.Serves.{from_host}
 use Rattle.image.specs.declared.instruction.Instruction.{Instruction}
-use Rattle.image.specs.declared.instruction.Instruction.TheVariants.{Amount, Flag, Post}
+use Rattle.image.specs.declared.instruction.Instruction.TheVariants.{Amount, Flag}
 use Rattle.machine.specs.declared.cells.Cell.{Cell}
 use Rattle.machine.specs.declared.frames.Frame.{Frame}
 use Rattle.machine.specs.declared.registers.Machine.{Machine}
 use Rattle.machine.specs.declared.registers.Flow.{Flow}
 use Rattle.machine.specs.Cells.{bind}
 use Rattle.machine.specs.State.{State, Left, replaced}
-use Rattle.machine.specs.Step.{LeftPosted, LeftStep, field_on_top, asked_for, amount_asked, flag_asked, posted, carried, next}
+use Rattle.machine.specs.Step.{LeftStep, field_on_top, asked_for, amount_asked, flag_asked, carried, next}
 
 -- what is answered, put into a value, and then used is what is answered and used so
 bind-in : {A B C : Type 0} (r : Result A Halt) (g : A → B) (h : B → Result C Halt) → bind (bind r (λ a. Ok (g a))) h ≡ bind r (λ a. h (g a))
@@ -51,13 +51,3 @@ module _ (r : Result Flow Halt) (old : State) (before : Meaning) (m : Machine) (
   flag-step i t f e h =
       subst (λ x. LeftStep (carried x t f before old) r old before m cells before) (sym e)
       (left-local (flag_asked before f old) (subst (λ p. Left p r old m cells) (flag-is before f old) h))
-
-module _ (r : Result Flow Halt) (old : State) (before : Meaning) (m : Machine) (cells : List Cell) (after : Meaning) where
-  left-posted : (p : Result (State × Meaning) Halt) → LeftPosted p r old before m cells after → LeftStep (bind p (λ q. Ok (next q.0 q.1))) r old before m cells after
-  left-posted (Ok p) h = (h.0.0, (h.0.1, h.0.2, h.0.3, h.0.4), h.1)
-  left-posted (Err x) h = (h.0.0, (h.0.1, h.0.2, h.0.3, h.0.4), h.1)
-
-  -- what a posting leaves is what the step leaves
-  pub post-step : (i : Instruction) (t : ValueType) (f : Frame) → i ≡ Post → LeftPosted (posted before f old) r old before m cells after → LeftStep (carried i t f before old) r old before m cells after
-  post-step i t f e h =
-      subst (λ x. LeftStep (carried x t f before old) r old before m cells after) (sym e) (left-posted (posted before f old) h)

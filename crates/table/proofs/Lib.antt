@@ -7,5 +7,4 @@ pub mod Kept
 pub mod Views
 pub mod Unique
 pub mod Proved
-pub mod Computed
 pub mod Rows

@@ -1,4 +1,4 @@
-use Rattle.std.proofs.Common.{◌≡◌, refl, arith, rules}
+use Rattle.std.proofs.Common.{◌≡◌, arith, rules}
 use Rattle.std.proofs.lemmas.Result.{err_from_is_err_and}
 use Rattle.table.specs.declared.kinds.Class.TheVariants as classes
 use Rattle.table.specs.Kinds.{kind_at, class_or}
@@ -7,10 +7,6 @@ use Rattle.table.specs.Layout.Branches.{nil, cons}
 use Rattle.walk.proofs.Along.{a-child, no-child}
 use Rattle.admission.proofs.Progress.{body-ahead, run-out, parameters-end, parameters-refused, parameters-on}
 use Rattle.admission.proofs.tables.Table.parameters.Goals as goal
-
-pub loop-at-init : goal.loop-at-init
-loop-at-init c =
-    rw c.into_iter-at-iterator.ensures.into_iter_gives (record { over = record { over = refl; to = refl }; behind = omega arith; widened = (omega arith, refl, refl, omega arith); onward = λ qs b l. (qs, l, refl) })
 
 pub returns-then-ne : goal.returns-then-ne
 returns-then-ne c =

@@ -1,5 +1,5 @@
 use Rattle.std.proofs.Common.{rules}
-use Rattle.machine.proofs.Steps.{amounts, flags, amount-step, flag-step, post-step}
+use Rattle.machine.proofs.Steps.{amounts, flags, amount-step, flag-step}
 use Rattle.machine.proofs.context.Context.carry_out.Goals as goal
 
 pub returns-in-Amount-clause-state : goal.returns-in-Amount-clause-state
@@ -9,6 +9,3 @@ returns-in-Amount-clause-state g c =
 pub returns-in-Flag-clause-state : goal.returns-in-Flag-clause-state
 returns-in-Flag-clause-state g c =
     flag-step _ _ _ _ _ _ _ _ c.in-Flag.is (c.ask-in-Flag.ensures.state (flags (g.H.Host.means c.args.host.now)) (λ field r h. search rules))
-
-pub returns-in-Post-clause-state : goal.returns-in-Post-clause-state
-returns-in-Post-clause-state g c = post-step _ _ _ _ _ _ _ _ _ c.in-Post.is c.post.ensures.state

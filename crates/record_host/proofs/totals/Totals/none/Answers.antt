@@ -7,9 +7,6 @@ zeros zero a = refl
 zeros (suc n) zero = refl
 zeros (suc n) (suc a) = zeros n a
 
-pub returns : goal.returns
-returns c = record { sums = zeros 256; left = refl }
-
 pub invariant_of-result : goal.invariant_of-result
 invariant_of-result c = record {
   whole = refl;
