@@ -1,5 +1,5 @@
 // The host that runs ask.
-// Stays matched where it is asked: the two have no trait for lines and totals, and a run needs the type of its host.
+// Stays matched where it is asked: a trait for two types with one caller would be no shorter than the two matches.
 use record_host::record::RecordHost;
 use worksheet::sheet::Worksheet;
 
