@@ -61,9 +61,17 @@ impl<T: Copy, const N: usize> BoundedList<T, N> {
 
     // How many items there are.
     pub fn len(&self) -> usize
-        ensures { result ≡ length (items self.now) }
+        ensures count { result ≡ length (items self.now) }
+        ensures bound { result ≤ N }
     {
         self.as_slice().len()
+    }
+
+    // Lets all items go, in one write.
+    pub fn clear(&mut self)
+        ensures { items self.new ≡ [] }
+    {
+        self.count = 0;
     }
 
     // Whether no item more can be added.

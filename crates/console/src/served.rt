@@ -3,7 +3,7 @@
 use record_host::record::RecordHost;
 use worksheet::sheet::Worksheet;
 
-#[derive(Drop)]
+#[derive(Clone, Copy)]
 pub enum Served {
     Declared(RecordHost),
     Filled(Worksheet),

@@ -85,6 +85,7 @@ impl Image<'_> {
     }
 
     // The instruction that a code and its operand stand for.
+    #[inline(always)]
     fn decode(self, code: u32, operand: u32) -> Result<Instruction, Halt>
         ensures { result ≡ decoded self.entry.words.now self.entry.header code operand }
     {
@@ -115,6 +116,7 @@ impl Image<'_> {
     }
 
     // The instruction at a program counter.
+    #[inline(always)]
     pub fn fetch(self, counter: u32) -> Result<Instruction, Halt>
         ensures value { result ≡ fetched self.entry.words.now self.entry.header counter }
         ensures bound { OnOk result (counter < self.entry.header.count) }

@@ -35,6 +35,7 @@ fn subtract(a: i32, b: i32) -> Result<i32, Stop>
     a.checked_sub(b).ok_or(Stop::OutOfRange)
 }
 
+#[inline(always)]
 fn on_numbers(operator: Operator, a: i32, b: i32) -> Result<Value, Halt>
     ensures { result ≡ on_numbers operator a b }
 {
@@ -52,6 +53,7 @@ fn on_numbers(operator: Operator, a: i32, b: i32) -> Result<Value, Halt>
     }
 }
 
+#[inline(always)]
 fn on_truths(operator: Operator, a: bool, b: bool) -> Result<Value, Halt>
     ensures { result ≡ on_truths operator a b }
 {
@@ -69,6 +71,7 @@ fn on_truths(operator: Operator, a: bool, b: bool) -> Result<Value, Halt>
 
 impl Operator {
     // The operator's result at two operands, or why there is none.
+    #[inline(always)]
     pub fn apply(self, left: Value, right: Value) -> Result<Value, Halt>
         ensures { result ≡ applied self left right }
     {

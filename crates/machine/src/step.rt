@@ -17,6 +17,7 @@ use language::values::{Value, ValueType};
 
 impl Context<'_> {
     // An instruction that touches the machine and its cells alone.
+    #[inline(always)]
     fn carry_local(&mut self, frame: Frame, instruction: Local) -> Result<Flow, Halt>
         requires { Ready self.old.machine frame }
         ensures { Makes (local instruction frame) self.old result self.new }

@@ -32,6 +32,7 @@ impl Totals {
     pub(crate) fn charge(&mut self, account: u8, value: i32)
         requires { 0 < self.old.left }
         ensures sums { self.new.sums ≡ slice_set self.old.sums account (slice_index_or self.old.sums account (pos 0) +ℤ value) }
+        ensures most { self.new.most ≡ self.old.most }
         ensures left { self.new.left ≡ self.old.left - 1 }
     {
         self.sums[usize::from(account)] += i64::from(value);

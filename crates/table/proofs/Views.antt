@@ -146,6 +146,10 @@ statement-kind a-call-statement = refl
 statement-kind an-if-then = refl
 statement-kind an-if-else = refl
 
+pub declaration-kind : {k : Kind} {d : Declaration} → DeclarationOf k d → class_of k ≡ classes.Declaration
+declaration-kind a-variable = refl
+declaration-kind a-function = refl
+
 -- a node where the table has a branch is of some kind
 pub known_at : (b : Branch) (table : List Node) (i : ℕ) → Lays b table i → kind_at (node_at table i).kind ≡ None → ⊥
 known_at (branch k s v p bs) table i l e = none-some k (sym e ∙ ap kind_at l.1 ∙ kind-back k)
@@ -162,12 +166,18 @@ module _ (table : List Node) (i : ℕ) where
   pub statement-at : (k : Kind) → Decided k → (s : Statement) → Lays (of_statement s) table i → StatementOf k s
   statement-at k known s l = subst (λ j. StatementOf j s) (kind-at (of_statement s) table i k l known) (statement-of s)
 
+  pub declaration-at : (k : Kind) → Decided k → (d : Declaration) → Lays (of_declaration d) table i → DeclarationOf k d
+  declaration-at k known d l = subst (λ j. DeclarationOf j d) (kind-at (of_declaration d) table i k l known) (declaration-of d)
+
   -- the same tree, in its parts
   parts : {e f : Expression} → e ≡ f → Lays (of_expression e) table i → Lays (of_expression f) table i
   parts q l = subst (λ e. Lays (of_expression e) table i) q l
 
   parts-of-statement : {s r : Statement} → s ≡ r → Lays (of_statement s) table i → Lays (of_statement r) table i
   parts-of-statement q l = subst (λ s. Lays (of_statement s) table i) q l
+
+  parts-of-declaration : {d c : Declaration} → d ≡ c → Lays (of_declaration d) table i → Lays (of_declaration c) table i
+  parts-of-declaration q l = subst (λ d. Lays (of_declaration d) table i) q l
 
   pub integer-at : Decided kinds.Integer → (e : Expression) → Lays (of_expression e) table i → (p n : ℕ) × (e ≡ integer p n) × Lays (of_expression (integer p n)) table i
   integer-at known e l =
@@ -231,3 +241,13 @@ module _ (table : List Node) (i : ℕ) where
         | inl v ↦ (let m = parts-of-statement v.3 l in absurd (omega (arith, m.5.1.1)))
         | inr v ↦ (v.0, v.1, v.2, v.3, v.4, parts-of-statement v.4 l)
       ]
+
+  pub variable-at : Decided kinds.Variable → (d : Declaration) → Lays (of_declaration d) table i → (p : ℕ) × (t : ValueType) × (x : ℕ) × (d ≡ variable p t x) × Lays (of_declaration (variable p t x)) table i
+  variable-at known d l =
+      let v = as-variable (declaration-at kinds.Variable known d l) in
+      (v.0, v.1, v.2, v.3, parts-of-declaration v.3 l)
+
+  pub function-at : Decided kinds.Function → (d : Declaration) → Lays (of_declaration d) table i → (p : ℕ) × (t : ValueType) × (x : ℕ) × (qs : List Parameter) × (b : Body) × (d ≡ function p t x qs b) × Lays (of_declaration (function p t x qs b)) table i
+  function-at known d l =
+      let v = as_function (declaration-at kinds.Function known d l) in
+      (v.0, v.1, v.2, v.3, v.4, v.5, parts-of-declaration v.5 l)

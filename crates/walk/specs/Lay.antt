@@ -1,5 +1,6 @@
 -- The code laid so far, and how it grows. Assumes nothing.
 use Rattle.std.specs.Prelude.{ℕ, List, [], ◌∷◌, ◌++◌, length, slice_set}
+use Rattle.bounded_list.specs.Items.{items}
 use Rattle.walk.specs.declared.codes.Instr.{Instr}
 use Rattle.walk.specs.declared.codes.Code.{Code}
 
@@ -20,7 +21,7 @@ aimed code at c = patched code at c (length code)
 
 -- what is laid in the scratch
 abbrev pub live : Code → List Instr
-live s = s.instrs.items
+live s = items s.instrs
 
 -- how many instructions are laid
 abbrev pub count : Code → ℕ

@@ -1,5 +1,5 @@
 // The code that the walk has laid so far.
-use arrayvec::ArrayVec;
+use bounded_list::list::BoundedList;
 
 // An instruction: its code and its operand.
 // Stays of numbers: they are the image's words, and the definitions of the translation speak of them.
@@ -12,5 +12,5 @@ pub struct Instr {
 // Room for three instructions for each of 4,096 nodes.
 #[derive(Drop)]
 pub struct Code {
-    pub(crate) instrs: ArrayVec<Instr, 12_288>,
+    pub(crate) instrs: BoundedList<Instr, 12_288>,
 }

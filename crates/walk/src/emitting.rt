@@ -6,7 +6,7 @@ ghost use Rattle.walk.specs.Known.{AtMostOne};
 ghost use Rattle.walk.specs.Expressions.{dropped};
 
 use crate::codes::{Code, Instr};
-use arrayvec::ArrayVec;
+use bounded_list::list::BoundedList;
 use language::opcodes::Opcode;
 use language::values::ValueType;
 
@@ -18,7 +18,7 @@ impl Code {
         ensures length { count result ≡ 0 }
     {
         Code {
-            instrs: ArrayVec::new(),
+            instrs: BoundedList::empty(Instr::default()),
         }
     }
 
@@ -49,7 +49,7 @@ impl Code {
         requires { k < count self.now }
         ensures { result ≡ slice_index_or (live self.now) k (instr 0 0) }
     {
-        self.instrs[k]
+        self.as_slice()[k]
     }
 
     // Lays one more instruction.
@@ -67,7 +67,7 @@ impl Code {
         ensures code { live self.new ≡ patched (live self.old) at code operand }
         ensures length { count self.new ≡ count self.old }
     {
-        self.instrs[at as usize] = Instr { code, operand };
+        self.instrs.set(at as usize, Instr { code, operand });
     }
 
     // Lets a jump that was laid before go to what is laid next.
