@@ -4,7 +4,7 @@ use Rattle.std.proofs.lemmas.Bool.{cases_eq, cond-true, cond-false, eq-eqb, ne_e
 use Rattle.std.specs.Option.{option_map}
 use Rattle.record_host.specs.Lawful.{Rising}
 use Rattle.record_host.specs.Parts.{Given, part}
-use Rattle.record_host.proofs.Portions.{length_part, part_at}
+use Rattle.record_host.proofs.Portions.{as_long, part_at}
 use Rattle.record_host.specs.Says.{Group, Names, Says}
 use Rattle.record_host.specs.Means.{placed, valued, looked_up}
 
@@ -72,14 +72,14 @@ module _ {V : Type 0} (words : List ℕ) (group : Group) (reads : ℕ → V) (ri
   missed none = ap (valued words group.at reads) (placed-none words group.from group.count field (λ j inside is. none j (inside, is)))
 
   -- what the fields and values of the group, as slices, say of the field
-  pub given : (fields values : List ℕ) → fields ≡ part words group.from group.count → values ≡ part words group.at group.count
-      → group.from + group.count ≤ length words → (found : Option ℕ) → Given fields values field found
+  pub given : (fields values : List ℕ) (found : Option ℕ) → Given fields values field found → fields ≡ part words group.from group.count
+      → values ≡ part words group.at group.count → group.from + group.count ≤ length words
       → option_map reads found ≡ looked_up words group reads field
-  given fields values p q fits None none =
-      let long : length fields ≡ group.count = ap length p ∙ length_part words group.from group.count fits in
+  given fields values None none p q fits =
+      let long : length fields ≡ group.count = as_long words group.from group.count fields p fits in
       sym (missed (λ j names. none j (omega (arith, names.0)) (ap (λ l. get_or l j 0) p ∙ part_at words group.from group.count j names.0 ∙ names.1)))
-  given fields values p q fits (Some value) there =
-      let long : length fields ≡ group.count = ap length p ∙ length_part words group.from group.count fits in
+  given fields values (Some value) there p q fits =
+      let long : length fields ≡ group.count = as_long words group.from group.count fields p fits in
       let j = there.0 in
       let inside : j < group.count = omega (arith, there.1) in
       let field_is : get_or words (group.from + j) 0 ≡ field = sym (part_at words group.from group.count j inside) ∙ sym (ap (λ l. get_or l j 0) p) ∙ there.2 in

@@ -1,7 +1,9 @@
 -- A part of a row of words has the words from its place on.
-use Rattle.std.proofs.Common.{◌≡◌, ℕ, ◌+◌, ◌-◌, ◌<◌, ◌≤◌, Bool, Decides, List, length, get_or, drop, ◌∙◌, inl, inr, arith, length-drop, length-take-le, get_or-drop, get_or-take}
+use Rattle.std.proofs.Common.{◌≡◌, ℕ, ◌+◌, ◌-◌, ◌<◌, ◌≤◌, Bool, Decides, List, length, get_or, drop, min, take, ap, ◌∙◌, inl, inr, arith, length-drop, length-take-le, get_or-drop, get_or-take}
 use Rattle.std.specs.List.Sorted.{IsStrictlyIncreasing}
 use Rattle.std.proofs.lemmas.Bool.{cases_lt}
+use Rattle.std.proofs.lemmas.List.{length-take}
+use Rattle.std.proofs.Math.Nat.{min-le_left, min-le_right}
 use Rattle.record_host.specs.Lawful.{Counted, Lawful, Rising, UpTo, amounts, flags, values}
 use Rattle.record_host.specs.Parts.{NoneAbove, part}
 
@@ -9,8 +11,19 @@ module _ (words : List ℕ) (from count : ℕ) where
   pub length_part : from + count ≤ length words → length (part words from count) ≡ count
   length_part inside = length-take-le count (drop from words) (simp length-drop (omega arith))
 
+  pub as_long : (taken : List ℕ) → taken ≡ part words from count → from + count ≤ length words → length taken ≡ count
+  as_long taken is inside = ap length is ∙ length_part inside
+
   pub part_at : (j : ℕ) → j < count → get_or (part words from count) j 0 ≡ get_or words (from + j) 0
   part_at j inside = get_or-take count (drop from words) j 0 inside ∙ get_or-drop from words j 0
+
+-- the first of numbers that rise, as many as told, rise
+pub increasing_take : (n : ℕ) (l : List ℕ) → IsStrictlyIncreasing l → IsStrictlyIncreasing (take n l)
+increasing_take n l rises j below =
+    let inside : j + 1 < min n (length l) = rw (← length-take n l) below in
+    let short : j + 1 < n = omega (arith, min-le_left n (length l)) in
+    let fewer : j + 1 < length l = omega (arith, min-le_right n (length l)) in
+    omega (arith, rises j fewer, get_or-take n l j 0 (omega arith), get_or-take n l (j + 1) 0 short)
 
 -- what is asked of a part is asked of the words
 module _ (words : List ℕ) (from count : ℕ) (inside : from + count ≤ length words) where
